@@ -1,0 +1,22 @@
+-- Adding a slot: tests 1, then 2, 3 and 4 of the new slot alone, whose number is the place. A refusal gives the pattern back unchanged.
+use Prim.Native.Nat.{ℕ, _+_}
+use mathlib.Core.List.{List}
+use lib.Dec.{leb}
+use Rattle.pattern.specs.declared.slot.Slot.{Slot}
+use Rattle.pattern.specs.declared.Pattern.{Pattern}
+use Rattle.pattern.specs.declared.Extended.{Extended}
+use Rattle.pattern.specs.declared.refusal.Refusal.the-variants.{SlotCount}
+use Rattle.pattern.specs.declared.refusal.Verdict.{Verdict}
+use Rattle.pattern.specs.declared.refusal.Verdict.the-variants.{Accepted, Refused}
+use Rattle.pattern.specs.Patterns.{slotOf, withSlot}
+use Rattle.pattern.specs.Tests.{pick, slotVerdict}
+
+-- what is given where the new slot's tests come to the verdict
+abbrev pub added : Verdict → Pattern → Slot → Extended
+added Accepted f s = record { verdict = Accepted; pattern = withSlot f s }
+added (Refused why) f s = record { verdict = Refused why; pattern = f }
+
+unfoldable pub extended : Pattern → ℕ → ℕ → List ℕ → Extended
+extended f low high ws =
+    pick (leb 16 (f .count)) (record { verdict = Refused SlotCount; pattern = f })
+    (added (slotVerdict (f .count + 1) (slotOf low high ws)) f (slotOf low high ws))

@@ -1,0 +1,44 @@
+-- The test of membership, as the code goes through a list.
+use Prim.Native.Nat.{ℕ, _+_, _<_}
+use native.Mathlib.Numerals.{add-one}
+use mathlib.Core.Path.{_≡_, refl, sym}
+use mathlib.Core.Logic.{_↔_}
+use mathlib.Core.Bool.{Bool, true, false, _||_, false≢true, true≢false}
+use mathlib.Core.List.{List, [], _∷_, List·Memᴰ, List·Memᴰ·head, List·Memᴰ·tail, List·Memᴰ·not-nil}
+use lib.ListN.{length, getD, drop}
+use lib.Seq.{drop-cons, drop-length}
+use lib.Dec.{eqb}
+use borrow.Author.Tests.{eqb-true, eq-eqb, ne-eqb}
+use Rattle.pattern.specs.Patterns.{member}
+
+from-either : {w x : ℕ} {xs : List ℕ} (b : Bool) → (b ≡ true → x ≡ w) → (member w xs ≡ true → List·Memᴰ w xs) → (b || member w xs) ≡ true → List·Memᴰ w (x ∷ xs)
+from-either true here there e = List·Memᴰ·head (sym (here refl))
+from-either false here there e = List·Memᴰ·tail (there e)
+
+pub member-true : (w : ℕ) (xs : List ℕ) → member w xs ≡ true → List·Memᴰ w xs
+unfolding member
+member-true w [] e = absurd (false≢true e)
+member-true w (x ∷ xs) e = from-either (eqb x w) (eqb-true x w) (member-true w xs) e
+
+or-right : (b c : Bool) → c ≡ true → (b || c) ≡ true
+or-right true c e = refl
+or-right false c e = e
+
+pub mem-member : {w : ℕ} {xs : List ℕ} → List·Memᴰ w xs → member w xs ≡ true
+unfolding member
+mem-member {w} (List·Memᴰ·head {x = x} {xs = xs} e) = rw (eq-eqb x w (sym e))
+mem-member {w} (List·Memᴰ·tail {x = x} {xs = xs} m) = or-right (eqb x w) (member w xs) (mem-member m)
+
+-- ---- from element i on
+
+pub member-here : (w : ℕ) (l : List ℕ) (i : ℕ) → i < length l → getD l i 0 ≡ w → member w (drop i l) ≡ true
+unfolding member
+member-here w l i h e = rw (drop-cons l i 0) (simp (eq-eqb _ _ e))
+
+pub member-later : (w : ℕ) (l : List ℕ) (i : ℕ) → i < length l → (getD l i 0 ≡ w → ⊥) → member w (drop i l) ≡ member w (drop (i + 1) l)
+unfolding member
+member-later w l i h e = rw (add-one, drop-cons l i 0) (simp (ne-eqb _ _ e))
+
+pub member-none : (w : ℕ) (l : List ℕ) → member w (drop (length l) l) ≡ false
+unfolding member
+member-none w l = rw (drop-length l)

@@ -1,0 +1,54 @@
+-- Patterns and their slots (004, Definition 2; document 01: frames). A slot has a set of words where the definition has one letter.
+use Prim.Native.Nat.{ℕ, _+_, _-_}
+use mathlib.Core.List.{List, [], _∷_, _++_}
+use mathlib.Core.Bool.{Bool, true, false, _||_}
+use lib.ListN.{length, getD, take, set, replicate}
+use lib.Dec.{eqb}
+use Rattle.pattern.specs.declared.slot.Slot.{Slot}
+use Rattle.pattern.specs.declared.Pattern.{Pattern}
+
+-- ---- what a pattern says
+
+unfoldable pub member : ℕ → List ℕ → Bool
+member w [] = false
+member w (x ∷ xs) = eqb x w || member w xs
+
+-- the words that the slot states
+abbrev pub listed : Slot → List ℕ
+listed s = take (s .count) (s .words)
+
+-- the slot takes the word
+unfoldable pub takes : Slot → ℕ → Bool
+takes s w = member w (listed s)
+
+-- what the logic has past the end of an array of slots
+abbrev pub noSlot : Slot
+noSlot = record { words = []; count = 0; low = 0; high = 0 }
+
+-- slot j, counted from 0
+abbrev pub slotAt : Pattern → ℕ → Slot
+slotAt f j = getD (f .slots) j noSlot
+
+-- ---- how a pattern is made
+
+abbrev pub emptySlot : Slot
+emptySlot = record { words = replicate 8 0; count = 0; low = 0; high = 0 }
+
+-- a new pattern
+abbrev pub emptyPattern : Pattern
+emptyPattern = record { slots = replicate 16 emptySlot; count = 0; least = 1; most = 20000 }
+
+abbrev pub withSpan : Pattern → ℕ → ℕ → Pattern
+withSpan f least most = record { slots = f .slots; count = f .count; least = least; most = most }
+
+-- the first eight of the words, and 0 in the entries that they leave
+abbrev pub padded : List ℕ → List ℕ
+padded ws = take 8 ws ++ replicate (8 - length ws) 0
+
+-- the slot with these words
+abbrev pub slotOf : ℕ → ℕ → List ℕ → Slot
+slotOf low high ws = record { words = padded ws; count = length ws; low = low; high = high }
+
+-- the pattern with the slot last
+abbrev pub withSlot : Pattern → Slot → Pattern
+withSlot f s = record { slots = set (f .slots) (f .count) s; count = f .count + 1; least = f .least; most = f .most }

@@ -1,0 +1,61 @@
+-- The tests 1 to 6 of document 01, "Turned away", in their order: the first that applies refuses.
+use Prim.Native.Nat.{ℕ, zero, suc, _+_}
+use mathlib.Core.Bool.{Bool, true, false}
+use lib.Dec.{ltb, eqb}
+use Rattle.pattern.specs.declared.slot.Slot.{Slot}
+use Rattle.pattern.specs.declared.Pattern.{Pattern}
+use Rattle.pattern.specs.declared.refusal.Refusal.{Refusal}
+use Rattle.pattern.specs.declared.refusal.Refusal.the-variants.{SlotCount, WordCount, ZeroWord, Gap, Span, TextLength}
+use Rattle.pattern.specs.declared.refusal.Verdict.{Verdict}
+use Rattle.pattern.specs.declared.refusal.Verdict.the-variants.{Accepted, Refused}
+use Rattle.pattern.specs.Patterns.{takes, slotAt}
+
+abbrev pub pick : {A : Type 0} → Bool → A → A → A
+pick true a b = a
+pick false a b = b
+
+-- refused where the test applies, else as the later tests say
+abbrev pub refuse : Bool → Refusal → Verdict → Verdict
+refuse applies why later = pick applies (Refused why) later
+
+-- the first verdict that refuses
+abbrev pub andThen : Verdict → Verdict → Verdict
+andThen Accepted later = later
+andThen (Refused why) later = Refused why
+
+-- the widest gap before slot number k
+abbrev pub widestGap : ℕ → ℕ
+widestGap k = pick (eqb k 1) 0 63
+
+-- 2, 3 and 4, of slot number k
+unfoldable pub slotVerdict : ℕ → Slot → Verdict
+slotVerdict k s =
+    refuse (eqb (s .count) 0) (WordCount k)
+    (refuse (ltb 8 (s .count)) (WordCount k)
+    (refuse (takes s 0) (ZeroWord k)
+    (refuse (ltb (s .high) (s .low)) (Gap k)
+    (refuse (ltb (widestGap k) (s .high)) (Gap k) Accepted))))
+
+-- slot by slot, of the n slots from slot j on
+unfoldable pub slotsVerdict : Pattern → ℕ → ℕ → Verdict
+slotsVerdict f j zero = Accepted
+slotsVerdict f j (suc n) = andThen (slotVerdict (j + 1) (slotAt f j)) (slotsVerdict f (j + 1) n)
+
+-- 5
+unfoldable pub spanVerdict : ℕ → ℕ → Verdict
+spanVerdict least most =
+    refuse (eqb least 0) Span
+    (refuse (ltb most least) Span
+    (refuse (ltb 20000 most) Span Accepted))
+
+-- 1 to 5
+unfoldable pub patternVerdict : Pattern → Verdict
+patternVerdict f =
+    refuse (eqb (f .count) 0) SlotCount
+    (refuse (ltb 16 (f .count)) SlotCount
+    (andThen (slotsVerdict f 0 (f .count))
+    (spanVerdict (f .least) (f .most))))
+
+-- 1 to 6, of a pattern and a text of n words
+unfoldable pub inputVerdict : Pattern → ℕ → Verdict
+inputVerdict f n = andThen (patternVerdict f) (refuse (ltb 20000 n) TextLength Accepted)
