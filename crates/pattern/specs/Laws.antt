@@ -1,3 +1,4 @@
 -- What follows from the definitions.
 pub mod Members
 pub mod Accepting
+pub mod Arrays

@@ -1,0 +1,226 @@
+-- All occurrences depth first: the rows from a slot on that start at a place, enumerated and counted. It computes fast.
+use Prim.Native.Nat.{ℕ, zero, suc, _+_, _-_, _*_, _^_, _≤_, _<_, min}
+use native.Mathlib.Nat.{pow-suc, pow-zero, mul-comm, mul-le-mul, mul-le-mul-right}
+use native.Mathlib.Numerals.{add-one}
+use native.Mathlib.Omega.{arith}
+use mathlib.Core.Path.{_≡_, refl, sym, ap, _∙_}
+use mathlib.Core.Logic.{_↔_}
+use mathlib.Core.Bool.{Bool, true, false, _&&_, and-eq-true-iff, true≢false}
+use mathlib.Core.List.{List, [], _∷_, _++_, map, List·Memᴰ, List·Memᴰ·head, List·Memᴰ·tail, Memᴰ·map}
+use lib.ListN.{length, length-map}
+use lib.Dec.{leb, ltb}
+use borrow.Author.Tests.{leb-true, le-leb, ltb-true, lt-ltb, le-ltb}
+use Rattle.pattern.specs.declared.Pattern.{Pattern}
+use Rattle.matching.specs.Occurrence.{Occurs, at, wordAt}
+use Rattle.pattern.specs.Patterns.{takes, slotAt}
+use Rattle.matching.specs.Collections.{Every, Pairwise, none, more}
+use Rattle.matching.specs.Laws.Collections.{every-of, every-map, every-mem, every-both, pairwise-append, map-every, map-pairwise}
+use Rattle.matching.specs.Occurrences.{Lex, here, after, places, occurrences}
+use Rattle.matching.specs.Laws.Enumeration.{places-mem, places-rise, occurrences-iff, occurrences-lex}
+use Rattle.matching.specs.Laws.Sums.{total, total-bound, gather, gather-mem, gather-every, length-gather}
+use Rattle.matching.specs.Laws.Ordering.{lex-unique}
+
+-- a list where the test holds, and none where not
+unfoldable pub only : {A : Type 0} → Bool → List A → List A
+only true xs = xs
+only false xs = []
+
+-- a number where the test holds, and 0 where not
+unfoldable pub when : Bool → ℕ → ℕ
+when true n = n
+when false n = 0
+
+only-every : {A : Type 0} {P : A → Type 0} (b : Bool) {xs : List A} → (b ≡ true → Every P xs) → Every P (only b xs)
+unfolding only
+only-every true h = h refl
+only-every false h = none
+
+only-pairwise : {A : Type 0} {R : A → A → Type 0} (b : Bool) {xs : List A} → Pairwise R xs → Pairwise R (only b xs)
+unfolding only
+only-pairwise true h = h
+only-pairwise false h = none
+
+only-mem : {A : Type 0} {b : Bool} {x : A} {xs : List A} → b ≡ true → List·Memᴰ x xs → List·Memᴰ x (only b xs)
+unfolding only
+only-mem e m = rw e m
+
+length-only : {A : Type 0} (b : Bool) (xs : List A) → length (only b xs) ≡ when b (length xs)
+unfolding only when
+length-only true xs = refl
+length-only false xs = refl
+
+pub when-bound : (b : Bool) {n m : ℕ} → n ≤ m → when b n ≤ m
+unfolding when
+when-bound true h = h
+when-bound false h = omega arith
+
+pub data Starts (p : ℕ) : List ℕ → Type 0 where
+  starts : {r : List ℕ} → Starts p (p ∷ r)
+
+starts-at : {p : ℕ} {r : List ℕ} → Starts p r → at r 0 ≡ p
+starts-at starts = refl
+
+starts-lex : {p q : ℕ} {r s : List ℕ} → p < q → Starts p r → Starts q s → Lex r s
+starts-lex l starts starts = here l
+
+module _ (g : ℕ → List (List ℕ)) (start : (p : ℕ) → Every (Starts p) (g p)) (rise : (p : ℕ) → Pairwise Lex (g p)) where
+  pub gather-lex : {ps : List ℕ} → Pairwise _<_ ps → Pairwise Lex (gather g ps)
+  unfolding gather
+  gather-lex none = none
+  gather-lex (more {x = p} e h) =
+      pairwise-append (rise p) (gather-lex h)
+      (every-map (λ r a. gather-every g (λ q l. every-map (λ s b. starts-lex l a b) (start q)) e) (start p))
+
+places-between : (p n : ℕ) → Every (λ q. (p ≤ q) × (q < p + n)) (places p n)
+unfolding places
+places-between p zero = none
+places-between p (suc n) = more {x = p} (omega arith, omega arith) (every-map (λ q h. (omega arith, omega arith)) (places-between (suc p) n))
+
+module _ (f : Pattern) (t : List ℕ) (stop : ℕ → ℕ) (from : ℕ) where
+  -- the slot may stand at the place, which is short of the slot's stop
+  unfoldable pub fits : ℕ → ℕ → Bool
+  fits j p = ltb p (stop j) && takes (slotAt f j) (wordAt t p)
+
+  -- the rows of the slot j and the k after it, the last not before `from`
+  pub data Part : ℕ → ℕ → List ℕ → Type 0 where
+    end : {j p : ℕ} → fits j p ≡ true → from ≤ p → Part zero j (p ∷ [])
+    step : {k j p : ℕ} {r : List ℕ} → fits j p ≡ true → p + slotAt f (suc j) .low + 1 ≤ at r 0 → at r 0 ≤ p + slotAt f (suc j) .high + 1
+        → Part k (suc j) r → Part (suc k) j (p ∷ r)
+
+  -- all of them that start at the place p
+  unfoldable pub branches : ℕ → ℕ → ℕ → List (List ℕ)
+  branches zero j p = only (fits j p && leb from p) ((p ∷ []) ∷ [])
+  branches (suc k) j p =
+      only (fits j p)
+      (map (λ r. p ∷ r) (gather (branches k (suc j)) (places (p + slotAt f (suc j) .low + 1) (slotAt f (suc j) .high + 1 - slotAt f (suc j) .low))))
+
+  -- and their number
+  unfoldable pub ways : ℕ → ℕ → ℕ → ℕ
+  ways zero j p = when (fits j p && leb from p) 1
+  ways (suc k) j p =
+      when (fits j p)
+      (total (slotAt f (suc j) .high + 1 - slotAt f (suc j) .low) (ways k (suc j)) (p + slotAt f (suc j) .low + 1))
+
+  pub length-branches : (k j p : ℕ) → length (branches k j p) ≡ ways k j p
+  unfolding branches ways
+  length-branches zero j p = length-only (fits j p && leb from p) ((p ∷ []) ∷ [])
+  length-branches (suc k) j p =
+      let lo = slotAt f (suc j) .low in
+      let hi = slotAt f (suc j) .high in
+      let rows = gather (branches k (suc j)) (places (p + lo + 1) (hi + 1 - lo)) in
+      length-only (fits j p) (map (λ r. p ∷ r) rows)
+      ∙ ap (when (fits j p)) (length-map rows (λ r. p ∷ r) ∙ length-gather (branches k (suc j)) (ways k (suc j)) (hi + 1 - lo) (p + lo + 1) (length-branches k (suc j)))
+
+  branches-start : (k j p : ℕ) → Every (Starts p) (branches k j p)
+  unfolding branches
+  branches-start zero j p = only-every (fits j p && leb from p) (λ e. more starts none)
+  branches-start (suc k) j p = only-every (fits j p) (λ e. map-every (λ r. p ∷ r) {P = λ r. Unit {0}} (λ r u. starts)
+      (every-of (λ r. tt) (gather (branches k (suc j)) (places (p + slotAt f (suc j) .low + 1) (slotAt f (suc j) .high + 1 - slotAt f (suc j) .low)))))
+
+  branches-lex : (k j p : ℕ) → Pairwise Lex (branches k j p)
+  unfolding branches
+  branches-lex zero j p = only-pairwise (fits j p && leb from p) (more none none)
+  branches-lex (suc k) j p =
+      only-pairwise (fits j p)
+      (map-pairwise (λ r. p ∷ r) (λ r s l. after l) (gather-lex (branches k (suc j)) (branches-start k (suc j)) (branches-lex k (suc j)) (places-rise _ _)))
+
+  branches-part : (k j p : ℕ) → Every (Part k j) (branches k j p)
+  unfolding branches
+  branches-part zero j p = only-every (fits j p && leb from p) (λ e. let b = and-eq-true-iff (fits j p) (leb from p) .0 e in more (end (b .0) (leb-true from p (b .1))) none)
+  branches-part (suc k) j p =
+      let lo = slotAt f (suc j) .low in
+      let hi = slotAt f (suc j) .high in
+      only-every (fits j p) (λ e.
+      map-every (λ r. p ∷ r) {P = λ r. Part k (suc j) r × (p + lo + 1 ≤ at r 0) × (at r 0 ≤ p + hi + 1)} (λ r h. step e (h .1) (h .2) (h .0))
+      (gather-every (branches k (suc j))
+      (λ q h. every-map (λ r b. (b .0, omega (arith, starts-at (b .1)), omega (arith, starts-at (b .1)))) (every-both (branches-part k (suc j) q) (branches-start k (suc j) q)))
+      (places-between (p + lo + 1) (hi + 1 - lo))))
+
+  part-branch : {k j : ℕ} {r : List ℕ} → Part k j r → List·Memᴰ r (branches k j (at r 0))
+  unfolding branches
+  part-branch (end {j = j} {p = p} e h) = only-mem (and-eq-true-iff (fits j p) (leb from p) .1 (e, le-leb from p h)) (List·Memᴰ·head refl)
+  part-branch (step {k = k} {j = j} {p = p} {r = r} e l h q) =
+      only-mem e (Memᴰ·map (λ r. p ∷ r) (gather-mem (branches k (suc j)) (places-mem _ _ (at r 0) l (omega arith)) (part-branch q)))
+
+  -- ---- what such a row is, slot by slot
+
+  pub part-size : {k j : ℕ} {r : List ℕ} → Part k j r → length r ≡ suc k
+  part-size (end e h) = refl
+  part-size (step e l h q) = ap suc (part-size q)
+
+  pub part-fits : {k j : ℕ} {r : List ℕ} → Part k j r → (i : ℕ) → i ≤ k → fits (j + i) (at r i) ≡ true
+  part-fits (end {j = j} e h) zero l = let z : j + 0 ≡ j = omega arith in rw z e
+  part-fits (end e h) (suc i) l = absurd (omega arith)
+  part-fits (step {j = j} e a b q) zero l = let z : j + 0 ≡ j = omega arith in rw z e
+  part-fits (step {j = j} e a b q) (suc i) l = let z : j + suc i ≡ suc j + i = omega arith in rw z (part-fits q i (omega arith))
+
+  pub part-gap : {k j : ℕ} {r : List ℕ} → Part k j r → (i : ℕ) → i < k
+      → (at r i + slotAt f (j + i + 1) .low + 1 ≤ at r (suc i)) × (at r (suc i) ≤ at r i + slotAt f (j + i + 1) .high + 1)
+  part-gap (end e h) i l = absurd (omega arith)
+  part-gap (step {j = j} e a b q) zero l = let z : j + 0 + 1 ≡ suc j = omega arith in rw z (a, b)
+  part-gap (step {j = j} e a b q) (suc i) l = let z : j + suc i + 1 ≡ suc j + i + 1 = omega arith in rw z (part-gap q i (omega arith))
+
+  pub part-last : {k j : ℕ} {r : List ℕ} → Part k j r → from ≤ at r k
+  part-last (end e h) = h
+  part-last (step e a b q) = part-last q
+
+  pub part-of : (k j : ℕ) (r : List ℕ) → length r ≡ suc k → ((i : ℕ) → i ≤ k → fits (j + i) (at r i) ≡ true)
+      → ((i : ℕ) → i < k → (at r i + slotAt f (j + i + 1) .low + 1 ≤ at r (suc i)) × (at r (suc i) ≤ at r i + slotAt f (j + i + 1) .high + 1))
+      → from ≤ at r k → Part k j r
+  part-of zero j [] e w g l = absurd (omega arith)
+  part-of zero j (p ∷ []) e w g l = let z : j + 0 ≡ j = omega arith in end (rw z at (w 0 (omega arith))) l
+  part-of zero j (p ∷ q ∷ r) e w g l = absurd (omega arith)
+  part-of (suc k) j [] e w g l = absurd (omega arith)
+  part-of (suc k) j (p ∷ r) e w g l =
+      let z : j + 0 ≡ j = omega arith in
+      let y : j + 0 + 1 ≡ suc j = omega arith in
+      let b = rw y at (g 0 (omega arith)) in
+      step (rw z at (w 0 (omega arith))) (b .0) (b .1)
+      (part-of k (suc j) r (omega arith)
+      (λ i h. let x : suc j + i ≡ j + suc i = omega arith in rw x (w (suc i) (omega arith)))
+      (λ i h. let x : suc j + i + 1 ≡ j + suc i + 1 = omega arith in rw x (g (suc i) (omega arith)))
+      l)
+
+-- ---- all occurrences, depth first
+
+-- the stop of each slot, and the least last place, for each first place
+module _ (f : Pattern) (t : List ℕ) (stops : ℕ → ℕ → ℕ) (froms : ℕ → ℕ) where
+  unfoldable pub tree : ℕ → List (List ℕ)
+  tree p = branches f t (stops p) (froms p) (f .count - 1) 0 p
+
+  unfoldable pub forest : List (List ℕ)
+  forest = gather tree (places 1 (length t))
+
+  -- the two say of each row whether it is an occurrence
+  pub record Covers : Type 0 where
+    pub into : (r : List ℕ) → Occurs f t r → Part f t (stops (at r 0)) (froms (at r 0)) (f .count - 1) 0 r × (1 ≤ at r 0) × (at r 0 ≤ length t)
+    pub back : (r : List ℕ) → Part f t (stops (at r 0)) (froms (at r 0)) (f .count - 1) 0 r → 1 ≤ at r 0 → at r 0 ≤ length t → Occurs f t r
+
+  module _ (covers : Covers) where
+    tree-start : (p : ℕ) → Every (Starts p) (tree p)
+    unfolding tree
+    tree-start p = branches-start f t (stops p) (froms p) (f .count - 1) 0 p
+
+    forest-lex : Pairwise Lex forest
+    unfolding forest tree
+    forest-lex = gather-lex tree tree-start (λ p. branches-lex f t (stops p) (froms p) (f .count - 1) 0 p) (places-rise 1 (length t))
+
+    tree-occurs : (p : ℕ) → (1 ≤ p) × (p < 1 + length t) → Every (Occurs f t) (tree p)
+    unfolding tree
+    tree-occurs p h =
+        every-map
+        (λ r b. let e = starts-at (b .1) in covers .back r (rw e (b .0)) (omega arith) (omega arith))
+        (every-both (branches-part f t (stops p) (froms p) (f .count - 1) 0 p) (tree-start p))
+
+    pub occurrences-forest : occurrences f t ≡ forest
+    unfolding forest tree
+    occurrences-forest =
+        lex-unique (occurrences-lex f t) forest-lex
+        (λ r m. let o = covers .into r (occurrences-iff f t r .0 m) in gather-mem tree (places-mem 1 (length t) (at r 0) (o .1) (omega arith)) (part-branch f t (stops (at r 0)) (froms (at r 0)) (o .0)))
+        (λ r m. occurrences-iff f t r .1 (every-mem (gather-every tree tree-occurs (places-between 1 (length t))) m))
+
+    pub count-forest : length (occurrences f t) ≡ total (length t) (λ p. ways f t (stops p) (froms p) (f .count - 1) 0 p) 1
+    unfolding forest tree
+    count-forest =
+        ap length occurrences-forest
+        ∙ length-gather tree (λ p. ways f t (stops p) (froms p) (f .count - 1) 0 p) (length t) 1 (λ p. length-branches f t (stops p) (froms p) (f .count - 1) 0 p)

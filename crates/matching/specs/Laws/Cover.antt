@@ -1,0 +1,138 @@
+-- Two ways to part the occurrences by their first places.
+use Prim.Native.Nat.{ℕ, zero, suc, _+_, _-_, _≤_, _<_, min}
+use native.Mathlib.Numerals.{add-one}
+use native.Mathlib.Omega.{arith}
+use mathlib.Core.Path.{_≡_, refl, sym, ap, _∙_}
+use mathlib.Core.Bool.{true, and-eq-true-iff}
+use mathlib.Core.List.{List}
+use lib.ListN.{length}
+use lib.Dec.{ltb}
+use borrow.Author.Tests.{ltb-true, lt-ltb}
+use Rattle.pattern.specs.declared.Pattern.{Pattern}
+use Rattle.matching.specs.Occurrence.{Occurs, at, wordAt}
+use Rattle.pattern.specs.Patterns.{takes, slotAt}
+use Rattle.matching.specs.Laws.Branches.{fits, Part, part-size, part-fits, part-gap, part-last, part-of, Covers, forest, occurrences-forest, ways, count-forest}
+use Rattle.matching.specs.Laws.Sums.{total}
+use Rattle.matching.specs.Occurrences.{occurrences}
+
+module _ (f : Pattern) where
+  -- the least and the largest distance from the first place to the place at slot k
+  unfoldable pub near : ℕ → ℕ
+  near zero = 0
+  near (suc k) = near k + slotAt f (suc k) .low + 1
+
+  unfoldable pub far : ℕ → ℕ
+  far zero = 0
+  far (suc k) = far k + slotAt f (suc k) .high + 1
+
+  -- the number of places that a row can span, and the slots' stops and the least last place of the rows with the first place p
+  unfoldable pub width : ℕ
+  width = min (f .most) (far (f .count - 1) + 1)
+
+  unfoldable pub limit : List ℕ → ℕ → ℕ → ℕ
+  limit t p j = p + min (min width (length t + 1 - p)) (far j + 1)
+
+  unfoldable pub least : ℕ → ℕ
+  least p = p + f .least - 1
+
+  -- and their number
+  unfoldable pub starting : List ℕ → ℕ → ℕ
+  starting t p = ways f t (limit t p) (least p) (f .count - 1) 0 p
+
+  -- the gaps of a row, slot by slot
+  abbrev pub Gaps : List ℕ → ℕ → Type 0
+  Gaps r k = (i : ℕ) → i < k → (at r i + slotAt f (suc i) .low + 1 ≤ at r (suc i)) × (at r (suc i) ≤ at r i + slotAt f (suc i) .high + 1)
+
+  gaps-near : (r : List ℕ) (k : ℕ) → Gaps r k → (i : ℕ) → i ≤ k → at r 0 + near i ≤ at r i
+  unfolding near
+  gaps-near r k g zero h = omega arith
+  gaps-near r k g (suc i) h = omega (arith, gaps-near r k g i (omega arith), g i (omega arith))
+
+  gaps-far : (r : List ℕ) (k : ℕ) → Gaps r k → (i : ℕ) → i ≤ k → at r i ≤ at r 0 + far i
+  unfolding far
+  gaps-far r k g zero h = omega arith
+  gaps-far r k g (suc i) h = omega (arith, gaps-far r k g i (omega arith), g i (omega arith))
+
+  gaps-rise : (r : List ℕ) (k : ℕ) → Gaps r k → (d i : ℕ) → i + d ≤ k → at r i ≤ at r (i + d)
+  gaps-rise r k g zero i h = let e : i + 0 ≡ i = omega arith in rw e (omega arith)
+  gaps-rise r k g (suc d) i h = let e : i + suc d ≡ suc (i + d) = omega arith in
+      rw e (omega (arith, gaps-rise r k g d i (omega arith), g (i + d) (omega arith)))
+
+  module _ (t : List ℕ) (some : 1 ≤ f .count) where
+    part-gaps : {stop : ℕ → ℕ} {from : ℕ} {r : List ℕ} → Part f t stop from (f .count - 1) 0 r → Gaps r (f .count - 1)
+    part-gaps {stop} {from} q i h = let e : 0 + i + 1 ≡ suc i = omega arith in rw e at (part-gap f t stop from q i h)
+
+    part-below : {stop : ℕ → ℕ} {from : ℕ} {r : List ℕ} → Part f t stop from (f .count - 1) 0 r → (i : ℕ) → i ≤ f .count - 1 → (at r i < stop i) × (takes (slotAt f i) (wordAt t (at r i)) ≡ true)
+    unfolding fits
+    part-below {stop} {from} {r} q i h =
+        let e : 0 + i ≡ i = omega arith in
+        let b = and-eq-true-iff (ltb (at r i) (stop i)) (takes (slotAt f i) (wordAt t (at r i))) .0 (rw e at (part-fits f t stop from q i h)) in
+        (ltb-true _ _ (b .0), b .1)
+
+    -- an occurrence, of the stop and the least last place
+    into : (stop : ℕ → ℕ) (from : ℕ) (r : List ℕ) → Occurs f t r → ((i : ℕ) → i ≤ f .count - 1 → at r i < stop i) → from ≤ at r (f .count - 1)
+        → Part f t stop from (f .count - 1) 0 r × (1 ≤ at r 0) × (at r 0 ≤ length t)
+    unfolding fits
+    into stop from r o below last = (
+      part-of f t stop from (f .count - 1) 0 r (omega (arith, o .size))
+          (λ i h. let e : 0 + i ≡ i = omega arith in
+          rw e (and-eq-true-iff (ltb (at r i) (stop i)) (takes (slotAt f i) (wordAt t (at r i))) .1 (lt-ltb _ _ (below i h), o .word i (omega arith))))
+          (λ i h. let e : 0 + i + 1 ≡ i + 1 = omega arith in let d : suc i ≡ i + 1 = omega arith in rw (e, d) (o .gap i (omega arith)))
+          last,
+      o .inside 0 (omega arith) .0,
+      o .inside 0 (omega arith) .1,
+    )
+
+    occurs-gaps : {r : List ℕ} → Occurs f t r → Gaps r (f .count - 1)
+    occurs-gaps o i h = let d : suc i ≡ i + 1 = omega arith in rw d (o .gap i (omega arith))
+
+    back : {stop : ℕ → ℕ} {from : ℕ} (r : List ℕ) → Part f t stop from (f .count - 1) 0 r → 1 ≤ at r 0 → ((i : ℕ) → stop i ≤ length t + 1)
+        → (at r 0 + f .least ≤ at r (f .count - 1) + 1) × (at r (f .count - 1) + 1 ≤ at r 0 + f .most) → Occurs f t r
+    back {stop} {from} r q one short span =
+        let g = part-gaps q in
+        let w = part-below q in
+        record {
+          size = omega (arith, part-size f t stop from q);
+          inside = λ j h. (omega (arith, gaps-near r (f .count - 1) g j (omega arith)), omega (arith, w j (omega arith) .0, short j));
+          word = λ j h. w j (omega arith) .1;
+          gap = λ j h. let e : j + 1 ≡ suc j = omega arith in rw e (g j (omega arith));
+          span = span;
+        }
+
+    -- any pattern: each first place with its own stop
+    pub covers-each : 1 ≤ f .least → Covers f t (limit t) least
+    unfolding width limit least
+    covers-each h = record {
+      into = λ r o. let g = occurs-gaps o in let s = o .span in
+          into (limit t (at r 0)) (least (at r 0)) r o
+          (λ i l. let d : i + (f .count - 1 - i) ≡ f .count - 1 = omega arith in
+          omega (arith, o .inside i (omega arith), rw d at (gaps-rise r (f .count - 1) g (f .count - 1 - i) i (omega arith)), gaps-far r (f .count - 1) g (f .count - 1) (omega arith), gaps-far r (f .count - 1) g i l))
+          (omega arith);
+      back = λ r q one inside.
+          let last = part-last f t (limit t (at r 0)) (least (at r 0)) q in
+          let below = part-below q (f .count - 1) (omega arith) .0 in
+          back r q one (λ i. omega arith) (omega arith, omega arith);
+    }
+
+    -- a pattern whose span limits say nothing: one stop
+    pub covers-all : f .least ≤ near (f .count - 1) + 1 → min (far (f .count - 1) + 1) (length t) ≤ f .most → Covers f t (λ p j. length t + 1) (λ p. 0)
+    covers-all l m = record {
+      into = λ r o. into (λ j. length t + 1) 0 r o (λ i h. omega (arith, o .inside i (omega arith))) (omega arith);
+      back = λ r q one inside. let g = part-gaps q in
+          back r q one (λ i. omega arith)
+          (omega (arith, gaps-near r (f .count - 1) g (f .count - 1) (omega arith)), omega (arith, gaps-far r (f .count - 1) g (f .count - 1) (omega arith), part-below q (f .count - 1) (omega arith) .0));
+    }
+
+    -- ---- all occurrences, and their number
+
+    -- every occurrence, depth first: this computes
+    pub occurrences-each : 1 ≤ f .least → occurrences f t ≡ forest f t (limit t) least
+    occurrences-each h = occurrences-forest f t (limit t) least (covers-each h)
+
+    pub tally-each : 1 ≤ f .least → length (occurrences f t) ≡ total (length t) (starting t) 1
+    unfolding starting
+    tally-each h = count-forest f t (limit t) least (covers-each h)
+
+    pub tally-all : f .least ≤ near (f .count - 1) + 1 → min (far (f .count - 1) + 1) (length t) ≤ f .most
+        → length (occurrences f t) ≡ total (length t) (ways f t (λ j. length t + 1) 0 (f .count - 1) 0) 1
+    tally-all l m = count-forest f t (λ p j. length t + 1) (λ p. 0) (covers-all l m)

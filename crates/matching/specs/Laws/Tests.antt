@@ -1,0 +1,52 @@
+-- The tests hold exactly where what they test holds.
+use Prim.Native.Nat.{ℕ, zero, suc, _≤_, _<_}
+use native.Mathlib.Decide.{ℕ-discrete}
+use native.Mathlib.Omega.{arith}
+use mathlib.Core.Path.{_≡_, refl}
+use mathlib.Core.Logic.{_↔_}
+use mathlib.Core.Bool.{Bool, true, and-eq-true-iff}
+use mathlib.Core.List.{List}
+use lib.Dec.{leb, ltb, eqb}
+use borrow.Author.Tests.{leb-true, le-leb, ltb-true, lt-ltb, eqb-true, eq-eqb}
+use Rattle.pattern.specs.declared.Pattern.{Pattern}
+use Rattle.matching.specs.Occurrence.{Occurs}
+use Rattle.matching.specs.Occurrences.{within, each, occurs}
+use Rattle.matching.specs.Rows.{Before, before}
+
+pub within-iff : (low x high : ℕ) → (within low x high ≡ true) ↔ ((low ≤ x) × (x ≤ high))
+unfolding within
+within-iff low x high = (
+  λ e. let b = and-eq-true-iff (leb low x) (leb x high) .0 e in (leb-true low x (b .0), leb-true x high (b .1)),
+  λ h. and-eq-true-iff (leb low x) (leb x high) .1 (le-leb low x (h .0), le-leb x high (h .1)),
+)
+
+pub eqb-iff : (x y : ℕ) → (eqb x y ≡ true) ↔ (x ≡ y)
+eqb-iff x y = (eqb-true x y, eq-eqb x y)
+
+below-suc : (P : ℕ → Type 0) (n : ℕ) → P n → ((j : ℕ) → j < n → P j) → (j : ℕ) → j < suc n → P j
+below-suc P n top below j h = elim (ℕ-discrete j n) [ yes e ↦ rw e top | no e ↦ below j (omega arith) ]
+
+pub each-iff : (n : ℕ) (p : ℕ → Bool) → (each n p ≡ true) ↔ ((j : ℕ) → j < n → p j ≡ true)
+unfolding each
+each-iff zero p = (λ e j h. absurd (omega arith), λ h. refl)
+each-iff (suc n) p = (
+  λ e. let b = and-eq-true-iff (p n) (each n p) .0 e in below-suc (λ j. p j ≡ true) n (b .0) (each-iff n p .0 (b .1)),
+  λ h. and-eq-true-iff (p n) (each n p) .1 (h n (omega arith), each-iff n p .1 (λ j l. h j (omega arith))),
+)
+
+ruleset tests = (and-eq-true-iff, within-iff, eqb-iff, each-iff)
+
+pub occurs-iff : (f : Pattern) (t r : List ℕ) → (occurs f t r ≡ true) ↔ Occurs f t r
+unfolding occurs
+occurs-iff f t r = (
+  λ e. let o = simp tests at e in
+      record { size = o .0 .0 .0 .0; inside = o .0 .0 .0 .1; word = o .0 .0 .1; gap = λ j h. o .0 .1 j (omega arith); span = o .1 },
+  λ o. simp tests ((((o .size, o .inside), o .word), λ j h. o .gap j (omega arith)), o .span),
+)
+
+ltb-iff : (a b : ℕ) → (ltb a b ≡ true) ↔ (a < b)
+ltb-iff a b = (ltb-true a b, lt-ltb a b)
+
+pub before-iff : (m : ℕ) (r s : List ℕ) → (before m r s ≡ true) ↔ Before m r s
+unfolding before Before
+before-iff m r s = (λ e. simp (each-iff, ltb-iff) at e, λ h. simp (each-iff, ltb-iff) h)

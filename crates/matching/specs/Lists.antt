@@ -1,0 +1,26 @@
+-- The front and back lists (document 01; Definition 5 of document 004: the sets of minimal and of maximal occurrences), earliest row first.
+use Prim.Native.Nat.{ℕ, zero, suc}
+use mathlib.Core.List.{List, [], _∷_, reverse}
+use mathlib.Core.Option.{Option, none, some}
+use lib.ListN.{length}
+use Rattle.pattern.specs.declared.Pattern.{Pattern}
+use Rattle.matching.specs.Rows.{level}
+use Rattle.matching.specs.Searches.{earliest, latest}
+
+-- the row that a search found and what follows it, or nothing
+unfoldable pub onward : Option (List ℕ) → (List ℕ → List (List ℕ)) → List (List ℕ)
+onward none rest = []
+onward (some r) rest = r ∷ rest r
+
+-- what the search finds from the marks, then from each row the next, until there is none; at most n rows
+unfoldable pub follow : (List ℕ → Option (List ℕ)) → ℕ → List ℕ → List (List ℕ)
+follow search zero marks = []
+follow search (suc n) marks = onward (search marks) (λ r. follow search n r)
+
+-- the front list: no two rows have the same first place, so there are at most as many rows as words
+unfoldable pub leftmost : Pattern → List ℕ → List (List ℕ)
+leftmost f t = follow (λ marks. earliest f t marks) (length t) (level (f .count) 0)
+
+-- the back list, found from its last row on
+unfoldable pub rightmost : Pattern → List ℕ → List (List ℕ)
+rightmost f t = reverse (follow (λ marks. latest f t marks) (length t) (level (f .count) 65535))

@@ -1,0 +1,55 @@
+-- All occurrences of a pattern in a text, each once, first place first, ties by the next slot (document 01: the full list).
+-- Their number is the tally.
+use Prim.Native.Nat.{ℕ, zero, suc, _+_, _-_, _<_}
+use mathlib.Core.Bool.{Bool, true, _&&_}
+use mathlib.Core.List.{List, [], _∷_, _++_, map}
+use lib.ListN.{length}
+use lib.Dec.{leb, eqb}
+use Rattle.pattern.specs.declared.Pattern.{Pattern}
+use Rattle.pattern.specs.Patterns.{takes, slotAt}
+use Rattle.matching.specs.Occurrence.{at, wordAt}
+use Rattle.matching.specs.Collections.{select}
+
+-- ---- the test of Definition 3
+
+unfoldable pub within : ℕ → ℕ → ℕ → Bool
+within low x high = leb low x && leb x high
+
+-- the test holds of each number below n
+unfoldable pub each : ℕ → (ℕ → Bool) → Bool
+each zero p = true
+each (suc n) p = p n && each n p
+
+unfoldable pub occurs : Pattern → List ℕ → List ℕ → Bool
+occurs f t r =
+    eqb (length r) (f .count)
+    && each (f .count) (λ j. within 1 (at r j) (length t))
+    && each (f .count) (λ j. takes (slotAt f j) (wordAt t (at r j)))
+    && each (f .count - 1) (λ j. within (at r j + slotAt f (j + 1) .low + 1) (at r (j + 1)) (at r j + slotAt f (j + 1) .high + 1))
+    && within (at r 0 + f .least) (at r (f .count - 1) + 1) (at r 0 + f .most)
+
+-- ---- all rows of places, in lexicographic order
+
+-- n places from p on
+unfoldable pub places : ℕ → ℕ → List ℕ
+places p zero = []
+places p (suc n) = p ∷ places (suc p) n
+
+-- a place of the list, then a row of the others
+unfoldable pub extend : List ℕ → List (List ℕ) → List (List ℕ)
+extend [] R = []
+extend (p ∷ ps) R = map (λ r. p ∷ r) R ++ extend ps R
+
+-- the rows of m places in a text of n words
+unfoldable pub rows : ℕ → ℕ → List (List ℕ)
+rows zero n = [] ∷ []
+rows (suc m) n = extend (places 1 n) (rows m n)
+
+pub data Lex : List ℕ → List ℕ → Type 0 where
+  here : {p q : ℕ} {r s : List ℕ} → p < q → Lex (p ∷ r) (q ∷ s)
+  after : {p : ℕ} {r s : List ℕ} → Lex r s → Lex (p ∷ r) (p ∷ s)
+
+-- ---- those that occur
+
+unfoldable pub occurrences : Pattern → List ℕ → List (List ℕ)
+occurrences f t = select (occurs f t) (rows (f .count) (length t))

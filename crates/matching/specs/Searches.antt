@@ -1,0 +1,33 @@
+-- The two searches (document 01: forward and backward), over all occurrences. Marks have any value.
+use Prim.Native.Nat.{ℕ}
+use mathlib.Core.List.{List, [], _∷_}
+use mathlib.Core.Option.{Option, none, some}
+use Rattle.pattern.specs.declared.Pattern.{Pattern}
+use Rattle.matching.specs.Collections.{select}
+use Rattle.matching.specs.Occurrences.{occurrences}
+use Rattle.matching.specs.Rows.{before, meet, join}
+
+-- at each slot the place that `near` prefers among the rows r and R
+unfoldable pub nearest : (List ℕ → List ℕ → List ℕ) → List ℕ → List (List ℕ) → List ℕ
+nearest near r [] = r
+nearest near r (s ∷ R) = near r (nearest near s R)
+
+-- the same of any list of rows, if it has one
+unfoldable pub extreme : (List ℕ → List ℕ → List ℕ) → List (List ℕ) → Option (List ℕ)
+extreme near [] = none
+extreme near (r ∷ R) = some (nearest near r R)
+
+-- the earliest of the rows R of m places with each place past its mark, and the latest with each place before its mark
+unfoldable pub earliestOf : ℕ → List (List ℕ) → List ℕ → Option (List ℕ)
+earliestOf m R marks = extreme meet (select (λ r. before m marks r) R)
+
+unfoldable pub latestOf : ℕ → List (List ℕ) → List ℕ → Option (List ℕ)
+latestOf m R marks = extreme join (select (λ r. before m r marks) R)
+
+-- the forward search: the occurrence past the marks that is earliest at every slot, or none
+abbrev pub earliest : Pattern → List ℕ → List ℕ → Option (List ℕ)
+earliest f t marks = earliestOf (f .count) (occurrences f t) marks
+
+-- the backward search: the occurrence before the marks that is latest at every slot, or none
+abbrev pub latest : Pattern → List ℕ → List ℕ → Option (List ℕ)
+latest f t marks = latestOf (f .count) (occurrences f t) marks

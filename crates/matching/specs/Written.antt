@@ -1,0 +1,19 @@
+-- What a list of places holds once rows have been written into it.
+use Prim.Native.Nat.{ℕ, _*_}
+use mathlib.Core.List.{List, [], _∷_, _++_}
+use lib.ListN.{length, take, drop}
+use lib.Dec.{ltb}
+use Rattle.pattern.specs.Tests.{pick}
+
+-- the first n places of a row of at most 16 over the start of the list, which stays as it was where they do not fit
+abbrev pub rowOver : ℕ → List ℕ → List ℕ → List ℕ
+rowOver n row l = pick (ltb 16 n) l (pick (ltb (length l) n) l (take n row ++ drop n l))
+
+-- the rows one after the other
+unfoldable pub flat : List (List ℕ) → List ℕ
+flat [] = []
+flat (r ∷ R) = r ++ flat R
+
+-- the rows of m places from the start of the list on: row k begins at (k - 1) * m. The rest of the list is as it was.
+abbrev pub written : ℕ → List (List ℕ) → List ℕ → List ℕ
+written m R l = flat R ++ drop (length R * m) l
