@@ -16,3 +16,4 @@ pub mod Searching
 pub mod Bounding
 pub mod Extremes
 pub mod Largest
+pub mod Texts

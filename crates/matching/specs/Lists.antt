@@ -1,4 +1,4 @@
--- The front and back lists (document 01; Definition 5 of document 004: the sets of minimal and of maximal occurrences), earliest row first.
+-- The front and back lists of document 01: search after search, each from the row before. Both have their earliest row first.
 use Prim.Native.Nat.{ℕ, zero, suc}
 use mathlib.Core.List.{List, [], _∷_, reverse}
 use mathlib.Core.Option.{Option, none, some}

@@ -1,4 +1,5 @@
--- The two searches (document 01: forward and backward), over all occurrences. Marks have any value.
+-- Definition 5 of document 004, of the occurrences past some marks or before them: the two searches (document 01: forward and backward).
+-- Marks have any value.
 use Prim.Native.Nat.{ℕ}
 use mathlib.Core.List.{List, [], _∷_}
 use mathlib.Core.Option.{Option, none, some}
@@ -24,10 +25,10 @@ earliestOf m R marks = extreme meet (select (λ r. before m marks r) R)
 unfoldable pub latestOf : ℕ → List (List ℕ) → List ℕ → Option (List ℕ)
 latestOf m R marks = extreme join (select (λ r. before m r marks) R)
 
--- the forward search: the occurrence past the marks that is earliest at every slot, or none
+-- the forward search: the minimal occurrence of those past the marks, which is earliest at every slot, or none
 abbrev pub earliest : Pattern → List ℕ → List ℕ → Option (List ℕ)
 earliest f t marks = earliestOf (f .count) (occurrences f t) marks
 
--- the backward search: the occurrence before the marks that is latest at every slot, or none
+-- the backward search: the maximal occurrence of those before the marks, which is latest at every slot, or none
 abbrev pub latest : Pattern → List ℕ → List ℕ → Option (List ℕ)
 latest f t marks = latestOf (f .count) (occurrences f t) marks
