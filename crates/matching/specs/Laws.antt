@@ -17,3 +17,5 @@ pub mod Bounding
 pub mod Extremes
 pub mod Largest
 pub mod Texts
+pub mod Mirror
+pub mod Turning

@@ -10,4 +10,5 @@ pub mod Rising
 pub mod Largest
 pub mod Written
 pub mod Texts
+pub mod Steps
 pub mod Laws

@@ -11,6 +11,7 @@ mod slot;
 
 pub use refusal::Refusal;
 pub use refusal::Verdict;
+pub use slot::lists;
 pub use slot::Slot;
 
 // A pattern with gap and length constraints (document 01: frame; 004, Definition 2).

@@ -21,7 +21,7 @@ fn smaller(a: usize, b: usize) -> usize
 }
 
 // Whether the word is one of the first `count` of a slot's words.
-fn lists(words: [u16; 8], count: usize, word: u16) -> bool
+pub fn lists(words: [u16; 8], count: usize, word: u16) -> bool
     ensures { λ r. ⌜ r ≡ member word (take count words) ⌝ }
 {
     let n = smaller(count, 8);

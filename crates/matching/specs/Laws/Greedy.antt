@@ -61,6 +61,14 @@ module _ {Hit : List ℕ → Type 0} {_≺_ : List ℕ → List ℕ → Type 0} 
   greedy-chain (done no-more) = end
   greedy-chain (next n g) = link (n .hit) (n .past) (greedy-chain g)
 
+-- marks that the same hits are past begin the same lists
+module _ {Hit : List ℕ → Type 0} {_≺_ _≼_ : List ℕ → List ℕ → Type 0} {a b : List ℕ} where
+  infix 40 _≺_
+  pub greedy-from : ((s : List ℕ) → Hit s → a ≺ s → b ≺ s) → ((s : List ℕ) → Hit s → b ≺ s → a ≺ s)
+      → {F : List (List ℕ)} → Greedy Hit _≺_ _≼_ a F → Greedy Hit _≺_ _≼_ b F
+  greedy-from on back (done no-more) = done (λ s h p. no-more s h (back s h p))
+  greedy-from on back (next {r = r} n g) = next (record { hit = n .hit; past = on r (n .hit) (n .past); least = λ s h p. n .least s h (back s h p) }) g
+
 module _ {m : ℕ} {Hit : List ℕ → Type 0} {_≺_ _≼_ : List ℕ → List ℕ → Type 0} {near : List ℕ → List ℕ → List ℕ} (d : Direction m _≺_ _≼_ near) where
   infix 40 _≺_
   infix 40 _≼_

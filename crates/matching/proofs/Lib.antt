@@ -1,0 +1,6 @@
+-- Laws that the proofs of several functions share.
+mod Least
+mod Reading
+mod Raising
+mod Settling
+mod Turning

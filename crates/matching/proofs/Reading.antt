@@ -1,0 +1,28 @@
+-- Reading a text from either end, place by place. Assumes nothing.
+use Prim.Native.Nat.{ℕ, _+_, _-_, _≤_, _<_}
+use native.Mathlib.Omega.{arith}
+use mathlib.Core.List.{List}
+use mathlib.Core.Bool.{Bool, true, false, true≢false, false≢true}
+use mathlib.Core.Path.{_≡_, refl, sym, ap, _∙_}
+use lib.ListN.{length, getD, take}
+use borrow.Author.Count.{below-more}
+use Rattle.pattern.specs.Patterns.{member}
+use Rattle.matching.specs.Occurrence.{wordAt}
+use Rattle.matching.specs.Steps.Turning.{seen}
+use Rattle.matching.specs.Laws.Collections.{getD-reverse}
+
+-- one more place whose word is taken, or is not: w is the word, and r whether it is taken
+pub told : (ws : List ℕ) (n : ℕ) {v w : ℕ} {r : Bool} → w ≡ v → r ≡ member w (take n ws) → r ≡ true → member v (take n ws) ≡ true
+told ws n e f g = ap (λ (x : ℕ). member x (take n ws)) (sym e) ∙ sym f ∙ g
+
+pub first-more : (ws : List ℕ) (n : ℕ) (t : List ℕ) (from p : ℕ) {w : ℕ} {r : Bool} → w ≡ wordAt t p → r ≡ member w (take n ws) → r ≡ false → ((k : ℕ) → k < p → from ≤ k → member (wordAt t k) (take n ws) ≡ true → ⊥) → (k : ℕ) → k < p + 1 → from ≤ k → member (wordAt t k) (take n ws) ≡ true → ⊥
+first-more ws n t from p d e l h = below-more _ p h (λ _ g. true≢false (sym g ∙ ap (λ (x : ℕ). member x (take n ws)) (sym d) ∙ sym e ∙ l))
+
+-- the text as it is read
+pub seen-back : (b : Bool) (t : List ℕ) (p : ℕ) → b ≡ true → 1 ≤ p → p ≤ length t → getD t (length t - p) 0 ≡ wordAt (seen b t) p
+seen-back true t p e h k = sym (getD-reverse t 0 (length t - p) (p - 1) (omega arith))
+seen-back false t p e h k = absurd (false≢true e)
+
+pub seen-on : (b : Bool) (t : List ℕ) (p : ℕ) → b ≡ false → getD t (p - 1) 0 ≡ wordAt (seen b t) p
+seen-on true t p e = absurd (true≢false e)
+seen-on false t p e = refl

@@ -1,0 +1,104 @@
+-- The rounds over the slots: when no slot of the last round asks more, the row is an occurrence, and the earliest. Assumes nothing.
+use Prim.Native.Nat.{ℕ, zero, suc, _+_, _-_, _*_, _≤_, _<_}
+use mathlib.Core.List.{List, [], _∷_}
+use mathlib.Core.Bool.{Bool, true, false, true≢false, false≢true}
+use mathlib.Core.Path.{_≡_, refl, sym, _∙_}
+use native.Mathlib.Decide.{ℕ-discrete, decLt}
+use native.Mathlib.Nat.{le-of-suc-le-suc, not-suc-le-zero}
+use native.Mathlib.Omega.{arith}
+use lib.ListN.{length, getD, take, set, length-set}
+use lib.Seq.{getD-set-same, getD-set-other, getD-take, length-take-le}
+use Rattle.pattern.specs.declared.Pattern.{Pattern}
+use Rattle.pattern.specs.Patterns.{takes, slotAt}
+use Rattle.matching.specs.declared.search.Answer.{Answer}
+use Rattle.matching.specs.Occurrence.{Occurs, wordAt, at}
+use Rattle.matching.specs.Rows.{Before, NotAfter}
+use Rattle.matching.specs.Steps.Bounds.{First, Least, Between, Prior, Next}
+use Rattle.matching.proofs.Raising.{rising-same, stable, raised, placed}
+use Rattle.matching.specs.Steps.Settling.{Ready, Bound, Visited, Placed, Never, slack, Rising, Stable, Settled, Started, Answered}
+
+-- the invariant of the rounds: the slots of the last `calm` visits are stable
+pub record Calm (f : Pattern) (t p₀ p : List ℕ) (calm j : ℕ) : Type 0 where
+  pub rising : Rising f t p₀ p
+  pub slot : j < f .count
+  pub within : calm ≤ f .count
+  pub near : (k : ℕ) → k < j → j ≤ k + calm → Stable f t p k
+  pub far : (k : ℕ) → k < f .count → j + f .count ≤ k + calm → Stable f t p k
+
+module _ {f : Pattern} {t : List ℕ} where
+  pub calm-begin : (p : List ℕ) → length p ≡ 16 → 1 ≤ f .count → Calm f t p p 0 0
+  calm-begin p e h = record { rising = rising-same p e; slot = h; within = omega arith; near = λ k l _. absurd (omega arith); far = λ k l b. absurd (omega arith) }
+
+  module _ {p₀ p : List ℕ} {calm j k r : ℕ} (S : Calm f t p₀ p calm j) (N : Next (f .count) j k) (W : Visited f t p j r) (h : r ≤ length t) where
+    pub calm-same : calm < f .count → r ≡ at p j → Calm f t p₀ p (calm + 1) k
+    calm-same l e =
+        let here = stable W e h in
+        let one : (i : ℕ) → i ≡ j → Stable f t p i = λ i q. rw q here in
+        record {
+          rising = S .rising;
+          slot = N .inside;
+          within = omega arith;
+          near = λ i a b. elim (ℕ-discrete i j) [ yes q ↦ one i q | no q ↦ elim (ℕ-discrete (j + 1) (f .count)) [ yes y ↦ absurd (omega (arith, N .round y)) | no y ↦ S .near i (omega (arith, N .on (omega (arith, S .slot)))) (omega (arith, N .on (omega (arith, S .slot)))) ] ];
+          far = λ i a b. elim (ℕ-discrete i j) [ yes q ↦ one i q | no q ↦ elim (ℕ-discrete (j + 1) (f .count)) [ yes y ↦ S .near i (omega arith) (omega (arith, N .round y)) | no y ↦ S .far i a (omega (arith, N .on (omega (arith, S .slot)))) ] ];
+        }
+
+    pub calm-raise : f .count ≤ 16 → Calm f t p₀ (set p j r) 0 k
+    calm-raise few = record { rising = raised (S .rising) W (S .slot) few; slot = N .inside; within = omega arith; near = λ i a b. absurd (omega arith); far = λ i a b. absurd (omega arith) }
+
+  pub all-calm : {p₀ p : List ℕ} {calm j : ℕ} → Calm f t p₀ p calm j → f .count ≤ calm → (k : ℕ) → k < f .count → Stable f t p k
+  all-calm {j = j} S h k l = elim (decLt k j) [ yes a ↦ S .near k a (omega (arith, S .slot)) | no a ↦ S .far k l (omega arith) ]
+
+-- a row at which nothing has to be raised is an occurrence
+pub occurs : (f : Pattern) (t p : List ℕ) → 1 ≤ f .count → f .count ≤ length p → ((k : ℕ) → k < f .count → 1 ≤ at p k) → ((k : ℕ) → k < f .count → Stable f t p k) → Occurs f t (take (f .count) p)
+occurs f t p some few pos still =
+    let m = f .count in
+    let e : (k : ℕ) → k < m → at (take m p) k ≡ at p k = λ k h. getD-take m p k 0 h in
+    let last : m - 1 < m = omega arith in
+    record {
+      size = length-take-le m p few;
+      inside = λ k h. omega (arith, e k h, pos k h, still k h .inside);
+      word = λ k h. rw (e k h) (still k h .word);
+      gap = λ k h. let i : k + 1 - 1 ≡ k = omega arith in let z : k < m = omega arith in let y : 0 < k + 1 = omega arith in omega (arith, e k z, e (k + 1) h, rw i at (still (k + 1) h .bound .after y), still k z .bound .before h);
+      span = let y : m - 1 + 1 ≡ m = omega arith in omega (arith, e 0 some, e (m - 1) last, still (m - 1) last .bound .ends y, still 0 some .bound .starts refl);
+    }
+
+-- nothing is left to raise
+pub settled : {f : Pattern} {t p₀ p : List ℕ} → Ready f t → Placed f p₀ → Rising f t p₀ p → ((k : ℕ) → k < f .count → Stable f t p k) → Settled f t p₀ (record { found = true; places = p })
+settled {f = f} {t = t} {p = p} ok pos S still =
+    record {
+      occurs = λ _. occurs f t p (ok .some) (omega (arith, S .size, ok .few)) (placed S pos) still;
+      size = λ _. S .size;
+      above = λ _. S .above;
+      rest = λ _. S .rest;
+      first = λ _. S .sound;
+      none = λ e. absurd (true≢false e);
+    }
+
+pub unsettled : {f : Pattern} {t p₀ : List ℕ} {a : Answer} → a .found ≡ false → Never f t p₀ → Settled f t p₀ a
+unsettled {a = a} e h =
+    let no-such : a .found ≡ true → ⊥ = λ g. true≢false (sym g ∙ e) in
+    record { occurs = λ g. absurd (no-such g); size = λ g. absurd (no-such g); above = λ g. absurd (no-such g); rest = λ g. absurd (no-such g); first = λ g. absurd (no-such g); none = λ _. h }
+
+-- the search's answer, from the row just past the marks and the earliest occurrence at or after it
+module _ (f : Pattern) (t : List ℕ) {n : ℕ} {marks : List ℕ} {s : Answer} (size : n ≡ length t) (S : Started (f .count) n marks s) where
+  pub answered : {a : Answer} → s .found ≡ true → Settled f t (s .places) a → Answered f t marks a
+  unfolding Before NotAfter
+  answered {a} e A =
+      let m = f .count in
+      let up : (q : List ℕ) → Before m marks q → NotAfter m (s .places) q = λ q P k h. omega (arith, S .past e k h, P k h) in
+      record {
+        some = λ g. record { hit = A .occurs g; past = λ k h. omega (arith, getD-take m (a .places) k 0 h, A .above g k h, S .past e k h); least = λ q O P k h. omega (arith, getD-take m (a .places) k 0 h, A .first g q O (up q P) k h) };
+        size = A .size;
+        rest = λ g k h. A .rest g k h ∙ S .rest e k h;
+        none = λ g q O P. A .none g q O (up q P);
+      }
+
+  pub unanswered : s .found ≡ false → Answered f t marks s
+  unfolding Before
+  unanswered e =
+      record { some = λ g. absurd (true≢false (sym g ∙ e)); size = λ g. absurd (true≢false (sym g ∙ e)); rest = λ g. absurd (true≢false (sym g ∙ e)); none = λ _ q O P. S .none e q P (λ k h. omega (arith, O .inside k h .1)) }
+
+-- a mark at the text's end leaves nothing past it
+pub start-none : (m n : ℕ) (marks : List ℕ) (j : ℕ) → j < m → n ≤ at marks j → (q : List ℕ) → Before m marks q → ((k : ℕ) → k < m → at q k ≤ n) → ⊥
+unfolding Before
+start-none m n marks j l h q past inside = omega (arith, past j l, inside j l)

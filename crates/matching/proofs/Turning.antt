@@ -1,0 +1,27 @@
+-- The loops that read a pattern and a row from the end. Assumes nothing.
+use Prim.Native.Nat.{ℕ, _+_, _-_, _≤_, _<_}
+use native.Mathlib.Omega.{arith}
+use mathlib.Core.List.{List}
+use mathlib.Core.Path.{_≡_, ap, _∙_}
+use lib.ListN.{length, getD, set}
+use Rattle.pattern.specs.declared.slot.Slot.{Slot}
+use Rattle.pattern.specs.declared.Pattern.{Pattern}
+use Rattle.pattern.specs.Patterns.{slotAt, noSlot}
+use Rattle.pattern.specs.Laws.Arrays.{set-more}
+use Rattle.matching.specs.Occurrence.{at}
+use Rattle.matching.specs.Steps.Turning.{Gap, TurnedSlot}
+
+pub turned-slot : (f : Pattern) (j k : ℕ) → j < f .count → Gap (f .count) j k
+    → TurnedSlot f j (record { words = slotAt f (f .count - 1 - j) .words; count = slotAt f (f .count - 1 - j) .count; low = slotAt f k .low; high = slotAt f k .high })
+turned-slot f j k l G = record {
+  words = λ i e. ap (λ (x : ℕ). slotAt f x .words) (omega arith);
+  count = λ i e. ap (λ (x : ℕ). slotAt f x .count) (omega arith);
+  low = λ i e h. ap (λ (x : ℕ). slotAt f x .low) (omega (arith, G .back h));
+  high = λ i e h. ap (λ (x : ℕ). slotAt f x .high) (omega (arith, G .back h));
+}
+
+pub place-more : (n m : ℕ) (row p : List ℕ) (j v : ℕ) → j < length p → j < m → v ≡ n + 1 - at row (m - 1 - j)
+    → ((k : ℕ) → k < j → (i : ℕ) → i + k + 1 ≡ m → at p k ≡ n + 1 - at row i) → (k : ℕ) → k < j + 1 → (i : ℕ) → i + k + 1 ≡ m → at (set p j v) k ≡ n + 1 - at row i
+place-more n m row p j v h l e before =
+    set-more 0 (λ k x. (i : ℕ) → i + k + 1 ≡ m → x ≡ n + 1 - at row i) p j v h before
+    (λ i q. e ∙ ap (λ (x : ℕ). n + 1 - at row x) (omega arith))

@@ -1,0 +1,4 @@
+-- The contracts of the functions inside this crate.
+pub mod Bounds
+pub mod Settling
+pub mod Turning

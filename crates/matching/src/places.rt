@@ -1,0 +1,42 @@
+ghost use mathlib.Core.Path.{_≡_};
+ghost use Prim.Native.Nat.{_≤_, _<_};
+ghost use lib.ListN.{length};
+ghost use Rattle.matching.specs.Occurrence.{wordAt};
+ghost use Rattle.matching.specs.Steps.Bounds.{First};
+ghost use Rattle.matching.specs.Steps.Turning.{seen};
+
+// A place or a gap as a number to count with.
+pub(crate) fn wide(x: u16) -> usize
+    ensures { λ r. ⌜ (r ≡ x) × (r < 65536) ⌝ }
+{
+    x as usize
+}
+
+// The word at a place, counted from the text's end where it is mirrored.
+fn word(text: &[u16], mirrored: bool, place: usize) -> u16
+    requires { ⌜ (1 ≤ place) × (place ≤ length (now text)) ⌝ }
+    ensures { λ r. ⌜ r ≡ wordAt (seen mirrored (now (text .entry))) place ⌝ }
+{
+    if mirrored {
+        let i = text.len() - place;
+        return text[i];
+    }
+    let i = place - 1;
+    text[i]
+}
+
+// The first place from `from` on whose word is one of the first `count`, or one past the text.
+pub(crate) fn first(words: [u16; 8], count: usize, text: &[u16], mirrored: bool, from: usize) -> usize
+    requires { ⌜ 1 ≤ from ⌝ }
+    ensures { λ r. ⌜ First words count (seen mirrored (now (text .entry))) from r ⌝ }
+{
+    let n = text.len();
+    let mut p = from;
+    while p <= n {
+        if pattern::lists(words, count, word(text, mirrored, p)) {
+            return p;
+        }
+        p += 1;
+    }
+    p
+}
