@@ -4,3 +4,4 @@ mod Reading
 mod Raising
 mod Settling
 mod Turning
+mod Answering

@@ -9,6 +9,7 @@ pub mod Lists
 pub mod Rising
 pub mod Largest
 pub mod Written
+pub mod Answers
 pub mod Texts
 pub mod Steps
 pub mod Laws

@@ -4,6 +4,11 @@ mod mirror;
 mod places;
 mod rows;
 mod search;
+mod searches;
 
 pub use rows::put_row;
 pub use rows::Listed;
+pub use searches::first_after;
+pub use searches::last_before;
+pub use searches::Outcome;
+pub use searches::Search;

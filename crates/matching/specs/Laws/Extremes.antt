@@ -1,18 +1,21 @@
 -- The searches find the nearest occurrences, and the front and back lists are the greedy lists; they are unique.
-use Prim.Native.Nat.{ℕ, _-_, _≤_, min}
+use Prim.Native.Nat.{ℕ, _-_, _≤_, _<_, min}
 use native.Mathlib.Omega.{arith}
-use mathlib.Core.Path.{_≡_, refl, sym, ap, _∙_}
+use mathlib.Core.Path.{_≡_, refl, sym, ap, _∙_, fun-ext}
 use mathlib.Core.Logic.{_↔_}
+use mathlib.Core.Bool.{Bool}
 use mathlib.Core.Option.{none, some}
 use mathlib.Core.List.{List, reverse}
 use lib.ListN.{length}
+use lib.Dec.{ltb}
 use Rattle.pattern.specs.declared.Pattern.{Pattern}
 use Rattle.matching.specs.Occurrence.{Occurs, at}
+use Rattle.matching.specs.Collections.{select}
 use Rattle.matching.specs.Occurrences.{occurrences}
 use Rattle.matching.specs.Rows.{level, Before, NotAfter, before, meet, join}
-use Rattle.matching.specs.Searches.{earliestOf, latestOf, earliest, latest}
+use Rattle.matching.specs.Searches.{extreme, earliestOf, latestOf, earliest, latest}
 use Rattle.matching.specs.Lists.{follow, leftmost, rightmost}
-use Rattle.matching.specs.Laws.Tests.{before-iff}
+use Rattle.matching.specs.Laws.Tests.{each-same, before-iff}
 use Rattle.matching.specs.Laws.Enumeration.{occurrences-occur, occurrences-iff}
 use Rattle.matching.specs.Laws.Rows.{After, NotBefore}
 use Rattle.matching.specs.Laws.Lattice.{occurs-sublattice}
@@ -74,6 +77,17 @@ module _ (f : Pattern) (t : List ℕ) (some-slot : 1 ≤ f .count) where
   pub latest-none : (marks : List ℕ) → (latest f t marks ≡ none) ↔ ((s : List ℕ) → Occurs f t s → Before (f .count) s marks → ⊥)
   unfolding latestOf
   latest-none marks = (none-search (backwards (f .count)) downwards marks, search-none (backwards (f .count)) downwards marks)
+
+  -- marks matter at the pattern's slots alone
+  pub earliest-same : (a b : List ℕ) → ((j : ℕ) → j < f .count → at a j ≡ at b j) → earliest f t a ≡ earliest f t b
+  unfolding earliestOf before
+  earliest-same a b same = ap (λ (past : List ℕ → Bool). extreme meet (select past (occurrences f t)))
+      (fun-ext (λ r. each-same (f .count) (λ j. ltb (at a j) (at r j)) (λ j. ltb (at b j) (at r j)) (λ j h. ap (λ (x : ℕ). ltb x (at r j)) (same j h))))
+
+  pub latest-same : (a b : List ℕ) → ((j : ℕ) → j < f .count → at a j ≡ at b j) → latest f t a ≡ latest f t b
+  unfolding latestOf before
+  latest-same a b same = ap (λ (past : List ℕ → Bool). extreme join (select past (occurrences f t)))
+      (fun-ext (λ r. each-same (f .count) (λ j. ltb (at r j) (at a j)) (λ j. ltb (at r j) (at b j)) (λ j h. ap (λ (x : ℕ). ltb (at r j) x) (same j h))))
 
   -- ---- the lists
 

@@ -34,6 +34,11 @@ each-iff (suc n) p = (
   λ h. and-eq-true-iff (p n) (each n p) .1 (h n (omega arith), each-iff n p .1 (λ j l. h j (omega arith))),
 )
 
+pub each-same : (n : ℕ) (p q : ℕ → Bool) → ((j : ℕ) → j < n → p j ≡ q j) → each n p ≡ each n q
+unfolding each
+each-same zero p q h = refl
+each-same (suc n) p q h = rw (h n (omega arith), each-same n p q (λ j l. h j (omega arith)))
+
 ruleset tests = (and-eq-true-iff, within-iff, eqb-iff, each-iff)
 
 pub occurs-iff : (f : Pattern) (t r : List ℕ) → (occurs f t r ≡ true) ↔ Occurs f t r

@@ -9,7 +9,7 @@ use Rattle.pattern.specs.Patterns.{takes, slotAt}
 use Rattle.matching.specs.declared.search.Answer.{Answer}
 use Rattle.matching.specs.Occurrence.{Occurs, wordAt, at}
 use Rattle.matching.specs.Rows.{Before, NotAfter}
-use Rattle.matching.specs.Laws.Extremes.{Earliest}
+use Rattle.matching.specs.Laws.Extremes.{Earliest, Latest}
 
 -- what a search needs of a pattern and a text
 pub record Ready (f : Pattern) (t : List ℕ) : Type 0 where
@@ -73,9 +73,30 @@ pub record Started (m n : ℕ) (marks : List ℕ) (a : Answer) : Type 0 where
   pub rest : a .found ≡ true → (j : ℕ) → m ≤ j → at (a .places) j ≡ 0
   pub none : a .found ≡ false → (q : List ℕ) → Before m marks q → ((j : ℕ) → j < m → at q j ≤ n) → ⊥
 
--- the earliest occurrence past the marks, as the search answers
-pub record Answered (f : Pattern) (t marks : List ℕ) (a : Answer) : Type 0 where
-  pub some : a .found ≡ true → Earliest f t marks (take (f .count) (a .places))
+-- ---- what a search answers
+
+-- where it found something, the first m places are a row that is the nearest, and the others 0; else there is none
+pub record Reported (m : ℕ) (Nearest : List ℕ → Type 0) (None : Type 0) (a : Answer) : Type 0 where
+  pub some : a .found ≡ true → Nearest (take m (a .places))
   pub size : a .found ≡ true → length (a .places) ≡ 16
-  pub rest : a .found ≡ true → (j : ℕ) → f .count ≤ j → at (a .places) j ≡ 0
-  pub none : a .found ≡ false → (q : List ℕ) → Occurs f t q → Before (f .count) marks q → ⊥
+  pub rest : a .found ≡ true → (j : ℕ) → m ≤ j → at (a .places) j ≡ 0
+  pub none : a .found ≡ false → None
+
+abbrev pub NoneAfter : Pattern → List ℕ → List ℕ → Type 0
+NoneAfter f t marks = (q : List ℕ) → Occurs f t q → Before (f .count) marks q → ⊥
+
+abbrev pub NoneBefore : Pattern → List ℕ → List ℕ → Type 0
+NoneBefore f t marks = (q : List ℕ) → Occurs f t q → Before (f .count) q marks → ⊥
+
+-- the earliest occurrence past the marks
+abbrev pub Answered : Pattern → List ℕ → List ℕ → Answer → Type 0
+Answered f t marks = Reported (f .count) (Earliest f t marks) (NoneAfter f t marks)
+
+-- the latest occurrence before the marks
+abbrev pub AnsweredBack : Pattern → List ℕ → List ℕ → Answer → Type 0
+AnsweredBack f t marks = Reported (f .count) (Latest f t marks) (NoneBefore f t marks)
+
+-- the row b has the places of a, and 0 past them
+pub record Copied (a b : List ℕ) : Type 0 where
+  pub size : length b ≡ 16
+  pub same : (j : ℕ) → at b j ≡ at a j

@@ -24,21 +24,21 @@ refused-fine : {why : Refusal} → Refused why ≡ Fine → ⊥
 refused-fine e = let z : _≡_ {A = ℕ} 0 1 = cc in omega arith
 
 -- a test followed by others accepts where it does not apply and they accept
-refuse-fine : (applies : Bool) (why : Refusal) (later : Verdict) → refuse applies why later ≡ Fine → (applies ≡ false) × (later ≡ Fine)
-refuse-fine true why later e = absurd (refused-fine e)
-refuse-fine false why later e = (refl, e)
+pub refuse-accepted : (applies : Bool) (why : Refusal) (later : Verdict) → refuse applies why later ≡ Fine → (applies ≡ false) × (later ≡ Fine)
+refuse-accepted true why later e = absurd (refused-fine e)
+refuse-accepted false why later e = (refl, e)
 
-fine-refuse : (applies : Bool) (why : Refusal) (later : Verdict) → applies ≡ false → later ≡ Fine → refuse applies why later ≡ Fine
-fine-refuse true why later e f = absurd (true≢false e)
-fine-refuse false why later e f = f
+pub accepted-refuse : (applies : Bool) (why : Refusal) (later : Verdict) → applies ≡ false → later ≡ Fine → refuse applies why later ≡ Fine
+accepted-refuse true why later e f = absurd (true≢false e)
+accepted-refuse false why later e f = f
 
-then-fine : (v later : Verdict) → andThen v later ≡ Fine → (v ≡ Fine) × (later ≡ Fine)
-then-fine Fine later e = (refl, e)
-then-fine (Refused why) later e = absurd (refused-fine e)
+pub then-accepted : (v later : Verdict) → andThen v later ≡ Fine → (v ≡ Fine) × (later ≡ Fine)
+then-accepted Fine later e = (refl, e)
+then-accepted (Refused why) later e = absurd (refused-fine e)
 
-fine-then : (v later : Verdict) → v ≡ Fine → later ≡ Fine → andThen v later ≡ Fine
-fine-then Fine later e f = f
-fine-then (Refused why) later e f = absurd (refused-fine e)
+pub accepted-then : (v later : Verdict) → v ≡ Fine → later ≡ Fine → andThen v later ≡ Fine
+accepted-then Fine later e f = f
+accepted-then (Refused why) later e f = absurd (refused-fine e)
 
 -- ---- a slot
 
@@ -81,11 +81,11 @@ pub slot-accepted : (j : ℕ) (s : Slot) → (slotVerdict (j + 1) s ≡ Fine) �
 unfolding slotVerdict
 slot-accepted j s = (
   λ e.
-      let a = refuse-fine (eqb (s .count) 0) (WordCount (j + 1)) _ e in
-      let b = refuse-fine (ltb 8 (s .count)) (WordCount (j + 1)) _ (a .1) in
-      let d = refuse-fine (takes s 0) (ZeroWord (j + 1)) _ (b .1) in
-      let g = refuse-fine (ltb (s .high) (s .low)) (Gap (j + 1)) _ (d .1) in
-      let h = refuse-fine (ltb (widestGap (j + 1)) (s .high)) (Gap (j + 1)) _ (g .1) in
+      let a = refuse-accepted (eqb (s .count) 0) (WordCount (j + 1)) _ e in
+      let b = refuse-accepted (ltb 8 (s .count)) (WordCount (j + 1)) _ (a .1) in
+      let d = refuse-accepted (takes s 0) (ZeroWord (j + 1)) _ (b .1) in
+      let g = refuse-accepted (ltb (s .high) (s .low)) (Gap (j + 1)) _ (d .1) in
+      let h = refuse-accepted (ltb (widestGap (j + 1)) (s .high)) (Gap (j + 1)) _ (g .1) in
       let k = narrow-gap j (widestGap (j + 1)) (s .high) (widest-at j) (ltb-false (widestGap (j + 1)) (s .high) (h .0)) in (
         record {
           some = positive (s .count) (eqb-false (s .count) 0 (a .0));
@@ -98,11 +98,11 @@ slot-accepted j s = (
       ),
   λ p.
       let a = p .0 in
-      fine-refuse (eqb (s .count) 0) (WordCount (j + 1)) _ (ne-eqb (s .count) 0 (λ e. omega (arith, a .some)))
-      (fine-refuse (ltb 8 (s .count)) (WordCount (j + 1)) _ (le-ltb 8 (s .count) (a .few))
-      (fine-refuse (takes s 0) (ZeroWord (j + 1)) _ (takes-zero s .1 (a .nonzero))
-      (fine-refuse (ltb (s .high) (s .low)) (Gap (j + 1)) _ (le-ltb (s .high) (s .low) (a .ordered))
-      (fine-refuse (ltb (widestGap (j + 1)) (s .high)) (Gap (j + 1)) _ (le-ltb (widestGap (j + 1)) (s .high) (gap-narrow j (widestGap (j + 1)) (s .high) (widest-at j) (a .narrow) (p .1))) refl)))),
+      accepted-refuse (eqb (s .count) 0) (WordCount (j + 1)) _ (ne-eqb (s .count) 0 (λ e. omega (arith, a .some)))
+      (accepted-refuse (ltb 8 (s .count)) (WordCount (j + 1)) _ (le-ltb 8 (s .count) (a .few))
+      (accepted-refuse (takes s 0) (ZeroWord (j + 1)) _ (takes-zero s .1 (a .nonzero))
+      (accepted-refuse (ltb (s .high) (s .low)) (Gap (j + 1)) _ (le-ltb (s .high) (s .low) (a .ordered))
+      (accepted-refuse (ltb (widestGap (j + 1)) (s .high)) (Gap (j + 1)) _ (le-ltb (widestGap (j + 1)) (s .high) (gap-narrow j (widestGap (j + 1)) (s .high) (widest-at j) (a .narrow) (p .1))) refl)))),
 )
 
 -- ---- slot by slot
@@ -112,12 +112,12 @@ unfolding slotsVerdict
 slots-accepted f zero j = (λ e i l h. absurd (omega arith), λ h. refl)
 slots-accepted f (suc n) j = (
   λ e.
-      let b = then-fine (slotVerdict (j + 1) (slotAt f j)) (slotsVerdict f (j + 1) n) e in
+      let b = then-accepted (slotVerdict (j + 1) (slotAt f j)) (slotsVerdict f (j + 1) n) e in
       let here = slot-accepted j (slotAt f j) .0 (b .0) in
       let later = slots-accepted f n (j + 1) .0 (b .1) in
       λ i l h. elim (ℕ-discrete i j) [ yes q ↦ rw q here | no q ↦ later i (omega arith) (omega arith) ],
   λ h.
-      fine-then (slotVerdict (j + 1) (slotAt f j)) (slotsVerdict f (j + 1) n)
+      accepted-then (slotVerdict (j + 1) (slotAt f j)) (slotsVerdict f (j + 1) n)
       (slot-accepted j (slotAt f j) .1 (h j (omega arith) (omega arith)))
       (slots-accepted f n (j + 1) .1 (λ i l k. h i (omega arith) (omega arith))),
 )
@@ -128,23 +128,23 @@ span-accepted : (least most : ℕ) → (spanVerdict least most ≡ Fine) ↔ ((1
 unfolding spanVerdict
 span-accepted least most = (
   λ e.
-      let a = refuse-fine (eqb least 0) Span _ e in
-      let b = refuse-fine (ltb most least) Span _ (a .1) in
-      let d = refuse-fine (ltb 20000 most) Span _ (b .1) in
+      let a = refuse-accepted (eqb least 0) Span _ e in
+      let b = refuse-accepted (ltb most least) Span _ (a .1) in
+      let d = refuse-accepted (ltb 20000 most) Span _ (b .1) in
       (positive least (eqb-false least 0 (a .0)), (ltb-false most least (b .0), ltb-false 20000 most (d .0))),
   λ p.
-      fine-refuse (eqb least 0) Span _ (ne-eqb least 0 (λ e. omega arith))
-      (fine-refuse (ltb most least) Span _ (le-ltb most least (p .1 .0))
-      (fine-refuse (ltb 20000 most) Span _ (le-ltb 20000 most (p .1 .1)) refl)),
+      accepted-refuse (eqb least 0) Span _ (ne-eqb least 0 (λ e. omega arith))
+      (accepted-refuse (ltb most least) Span _ (le-ltb most least (p .1 .0))
+      (accepted-refuse (ltb 20000 most) Span _ (le-ltb 20000 most (p .1 .1)) refl)),
 )
 
 pub pattern-accepted : (f : Pattern) → (patternVerdict f ≡ Fine) ↔ Accepted f
 unfolding patternVerdict
 pattern-accepted f = (
   λ e.
-      let a = refuse-fine (eqb (f .count) 0) SlotCount _ e in
-      let b = refuse-fine (ltb 16 (f .count)) SlotCount _ (a .1) in
-      let d = then-fine (slotsVerdict f 0 (f .count)) (spanVerdict (f .least) (f .most)) (b .1) in
+      let a = refuse-accepted (eqb (f .count) 0) SlotCount _ e in
+      let b = refuse-accepted (ltb 16 (f .count)) SlotCount _ (a .1) in
+      let d = then-accepted (slotsVerdict f 0 (f .count)) (spanVerdict (f .least) (f .most)) (b .1) in
       let some = positive (f .count) (eqb-false (f .count) 0 (a .0)) in
       let slots = slots-accepted f (f .count) 0 .0 (d .0) in
       let span = span-accepted (f .least) (f .most) .0 (d .1) in
@@ -158,9 +158,9 @@ pattern-accepted f = (
         most = span .1 .1;
       },
   λ a.
-      fine-refuse (eqb (f .count) 0) SlotCount _ (ne-eqb (f .count) 0 (λ e. omega (arith, a .some)))
-      (fine-refuse (ltb 16 (f .count)) SlotCount _ (le-ltb 16 (f .count) (a .few))
-      (fine-then (slotsVerdict f 0 (f .count)) (spanVerdict (f .least) (f .most))
+      accepted-refuse (eqb (f .count) 0) SlotCount _ (ne-eqb (f .count) 0 (λ e. omega (arith, a .some)))
+      (accepted-refuse (ltb 16 (f .count)) SlotCount _ (le-ltb 16 (f .count) (a .few))
+      (accepted-then (slotsVerdict f 0 (f .count)) (spanVerdict (f .least) (f .most))
       (slots-accepted f (f .count) 0 .1 (λ i l h. (a .slot i (omega arith), λ z. rw z (a .first))))
       (span-accepted (f .least) (f .most) .1 (a .least, (a .ordered, a .most))))),
 )
@@ -169,9 +169,9 @@ pub input-accepted : (f : Pattern) (n : ℕ) → (inputVerdict f n ≡ Fine) ↔
 unfolding inputVerdict
 input-accepted f n = (
   λ e.
-      let a = then-fine (patternVerdict f) (refuse (ltb 20000 n) TextLength Fine) e in
-      record { pattern = pattern-accepted f .0 (a .0); short = ltb-false 20000 n (refuse-fine (ltb 20000 n) TextLength Fine (a .1) .0) },
+      let a = then-accepted (patternVerdict f) (refuse (ltb 20000 n) TextLength Fine) e in
+      record { pattern = pattern-accepted f .0 (a .0); short = ltb-false 20000 n (refuse-accepted (ltb 20000 n) TextLength Fine (a .1) .0) },
   λ a.
-      fine-then (patternVerdict f) (refuse (ltb 20000 n) TextLength Fine) (pattern-accepted f .1 (a .pattern))
-      (fine-refuse (ltb 20000 n) TextLength Fine (le-ltb 20000 n (a .short)) refl),
+      accepted-then (patternVerdict f) (refuse (ltb 20000 n) TextLength Fine) (pattern-accepted f .1 (a .pattern))
+      (accepted-refuse (ltb 20000 n) TextLength Fine (le-ltb 20000 n (a .short)) refl),
 )

@@ -1,0 +1,72 @@
+-- What the public calls answer: the tests in document 01's order, then what the meanings say.
+use Prim.Native.Nat.{ℕ, _+_, _-_, _*_}
+use mathlib.Core.Path.{_≡_}
+use mathlib.Core.Bool.{Bool, true, false, not}
+use mathlib.Core.List.{List, [], _++_}
+use mathlib.Core.Option.{Option, none, some}
+use lib.ListN.{length, take, drop, replicate}
+use lib.Dec.{ltb, eqb}
+use Rattle.pattern.specs.declared.Pattern.{Pattern}
+use Rattle.pattern.specs.declared.refusal.Refusal.the-variants.{RowLength, ListLength}
+use Rattle.pattern.specs.declared.refusal.Verdict.{Verdict}
+use Rattle.pattern.specs.declared.refusal.Verdict.the-variants.{Accepted, Refused}
+use Rattle.pattern.specs.Tests.{pick, refuse, andThen, inputVerdict}
+use Rattle.matching.specs.declared.search.Answer.{Answer}
+use Rattle.matching.specs.declared.searches.Search.{Search}
+use Rattle.matching.specs.declared.searches.Outcome.the-variants.{Found, Absent, Refused as NotSearched}
+use Rattle.matching.specs.declared.rows.Listed.{Listed}
+use Rattle.matching.specs.declared.rows.Listed.the-variants.{Rows, Refused as NotListed}
+use Rattle.matching.specs.Searches.{earliest, latest}
+use Rattle.matching.specs.Lists.{leftmost, rightmost}
+use Rattle.matching.specs.Written.{written}
+use Rattle.matching.specs.Largest.{Largest}
+
+-- 1 to 6, then 7, of a row or of marks
+unfoldable pub rowVerdict : Pattern → List ℕ → List ℕ → Verdict
+rowVerdict f t row = andThen (inputVerdict f (length t)) (refuse (not (eqb (length row) (f .count))) RowLength Accepted)
+
+-- ---- the searches
+
+-- a row as sixteen places, those past its slots 0
+abbrev pub sixteen : List ℕ → List ℕ
+sixteen r = r ++ replicate (16 - length r) 0
+
+abbrev pub searched : Option (List ℕ) → Search
+searched none = record { outcome = Absent; places = replicate 16 0 }
+searched (some r) = record { outcome = Found; places = sixteen r }
+
+-- where the tests come to the verdict
+abbrev pub searchedBy : Verdict → Option (List ℕ) → Search
+searchedBy Accepted found = searched found
+searchedBy (Refused why) found = record { outcome = NotSearched why; places = replicate 16 0 }
+
+abbrev pub firstAfter : Pattern → List ℕ → List ℕ → Search
+firstAfter f t marks = searchedBy (rowVerdict f t marks) (earliest f t marks)
+
+abbrev pub lastBefore : Pattern → List ℕ → List ℕ → Search
+lastBefore f t marks = searchedBy (rowVerdict f t marks) (latest f t marks)
+
+-- what is made of an answer inside
+abbrev pub shownAnswer : Answer → Search
+shownAnswer a = pick (a .found) (record { outcome = Found; places = a .places }) (record { outcome = Absent; places = replicate 16 0 })
+
+-- ---- the lists
+
+-- what a list call answers where its tests 1 to 6 come to the verdict: rows of m places are to go into a list of `room` entries
+abbrev pub listed : Verdict → ℕ → List (List ℕ) → ℕ → Listed
+listed Accepted m R room = pick (ltb room (length R * m)) (NotListed (ListLength (length R))) (Rows (length R))
+listed (Refused why) m R room = NotListed why
+
+-- what the list then holds: nothing is written on a refusal
+abbrev pub filled : Verdict → ℕ → List (List ℕ) → List ℕ → List ℕ
+filled Accepted m R l = pick (ltb (length l) (length R * m)) l (written m R l)
+filled (Refused why) m R l = l
+
+-- the count alone
+abbrev pub counted : Verdict → List (List ℕ) → Listed
+counted Accepted R = Rows (length R)
+counted (Refused why) R = NotListed why
+
+-- demand 3, of every accepted pattern and text
+abbrev pub Best : Pattern → List ℕ → Type 0
+Best f t = inputVerdict f (length t) ≡ Accepted → Largest f t (leftmost f t) (rightmost f t)
