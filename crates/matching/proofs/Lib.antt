@@ -5,3 +5,4 @@ mod Raising
 mod Settling
 mod Turning
 mod Answering
+mod Testing

@@ -2,3 +2,4 @@
 pub mod Bounds
 pub mod Settling
 pub mod Turning
+pub mod Testing

@@ -1,11 +1,15 @@
 // Finding occurrences of patterns in texts: the hit test, the searches, the front and back lists. The meanings stand in specs/.
 mod bounds;
+mod hits;
 mod mirror;
 mod places;
 mod rows;
 mod search;
 mod searches;
 
+pub use hits::excerpt;
+pub use hits::is_occurrence;
+pub use hits::Tested;
 pub use rows::put_row;
 pub use rows::Listed;
 pub use searches::first_after;
