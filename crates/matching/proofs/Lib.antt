@@ -6,3 +6,7 @@ mod Settling
 mod Turning
 mod Answering
 mod Testing
+mod Finding
+mod Writing
+mod Reversing
+mod Listing

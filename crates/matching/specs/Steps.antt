@@ -3,3 +3,4 @@ pub mod Bounds
 pub mod Settling
 pub mod Turning
 pub mod Testing
+pub mod Listing

@@ -1,7 +1,7 @@
 use crate::mirror::flipped;
 use crate::mirror::turned;
-use crate::search::search;
 use crate::search::Answer;
+use crate::search::search;
 use pattern::Pattern;
 use pattern::Refusal;
 use pattern::Verdict;

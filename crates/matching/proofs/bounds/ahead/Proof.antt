@@ -1,3 +1,4 @@
+-- `ahead` meets its contract: each branch is the least place of its case (`ahead-least`).
 use native.Mathlib.Omega.{arith}
 use mathlib.Core.Logic.{inl, inr}
 use borrow.Author.Needs.{needs}

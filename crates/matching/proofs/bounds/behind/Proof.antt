@@ -1,3 +1,4 @@
+-- `behind` meets its contract: each branch is the least place of its case (`behind-least`).
 use native.Mathlib.Omega.{arith}
 use mathlib.Core.Logic.{inl, inr}
 use borrow.Author.Needs.{needs}

@@ -1,3 +1,4 @@
+-- `need` meets its contract: the larger of two least places is the least that has both properties.
 use borrow.Author.Needs.{needs}
 use Rattle.matching.proofs.Least.{need-least}
 use Rattle.matching.proofs.bounds.need.Statement.{statement}

@@ -1,36 +1,28 @@
+-- `gap_fits` meets its contract: each branch decides one limit.
 use native.Mathlib.Omega.{arith}
 use Rattle.matching.proofs.Testing.{decides-true, decides-false}
 use borrow.Author.Needs.{needs}
 use Rattle.matching.proofs.hits.gap_fits.Statement.{statement}
 use Rattle.matching.proofs.hits.gap_fits.Tie as tie
-use Rattle.matching.proofs.hits.gap_fits.Reads as reads
-use Rattle.matching.proofs.hits.gap_fits.Lts as lts
 
--- src/hits.rt:57:12
 add-if1 : tie.Need-add-if1
 add-if1 c = search needs
 
--- src/hits.rt:57:12
 add-if1-2 : tie.Need-add-if1-2
 add-if1-2 c = search needs
 
--- src/hits.rt:58:9
 returns : tie.Need-returns
-returns c = decides-false (λ p. omega (arith, (c .if1) .taken, p .least))
+returns c = decides-false (λ p. omega (arith, c .if1 .taken, p .least))
 
--- src/hits.rt:60:8
 add-if2 : tie.Need-add-if2
 add-if2 c = search needs
 
--- src/hits.rt:60:8
 add-if2-2 : tie.Need-add-if2-2
 add-if2-2 c = search needs
 
--- src/hits.rt:61:9
 returns-2 : tie.Need-returns-2
-returns-2 c = decides-false (λ p. omega (arith, (c .if2) .taken, p .most))
+returns-2 c = decides-false (λ p. omega (arith, c .if2 .taken, p .most))
 
--- src/hits.rt:53:1
 returns-3 : tie.Need-returns-3
 returns-3 c = decides-true (record { least = omega arith; most = omega arith })
 

@@ -1,5 +1,6 @@
+-- `gaps_fit` meets its contract. The invariant: each gap before slot j fits.
 use native.Mathlib.Omega.{arith}
-use Prim.Native.Nat.{ℕ, _≤_, _<_, _-_, _+_}
+use Prim.Native.Nat.{ℕ, _≤_, _<_, _-_}
 use borrow.Author.Tests.{not-true, not-false}
 use Rattle.pattern.specs.Patterns.{slotAt}
 use Rattle.matching.specs.Occurrence.{at}
@@ -8,10 +9,6 @@ use Rattle.matching.proofs.Testing.{decides-true, decides-false, gaps-m
 use borrow.Author.Needs.{needs}
 use Rattle.matching.proofs.hits.gaps_fit.Statement.{statement}
 use Rattle.matching.proofs.hits.gaps_fit.Tie as tie
-use Rattle.matching.proofs.hits.gaps_fit.Reads as reads
-use Rattle.matching.proofs.hits.gaps_fit.Lts as lts
-use Rattle.matching.proofs.hits.gap_fits.Reads as gap-fits-reads
-use Rattle.matching.proofs.places.wide.Reads as wide-reads
 
 abbrev Inv-loop : tie.InvT-loop
 Inv-loop row pattern m j₀ j = (1 ≤ j) × ((k : ℕ) → k < j → 1 ≤ k → GapFits (at row (k - 1)) (at row k) (slotAt pattern k .low) (slotAt pattern k .high))
@@ -19,77 +16,59 @@ Inv-loop row pattern m j₀ j = (1 ≤ j) × ((k : ℕ) → k < j → 1 ≤ k �
 abbrev μ-loop : tie.MeasureT-loop
 μ-loop row pattern m j₀ j = m - j
 
--- src/hits.rt:73:5
 loop-holds : tie.Need-loop-holds Inv-loop μ-loop
 loop-holds c = (search needs, λ k h l. absurd (omega arith))
 
--- src/hits.rt:74:17
 mul-s : tie.Need-mul-s Inv-loop μ-loop
 mul-s c = search needs
 
--- src/hits.rt:74:17
 element-copy-out-s : tie.Need-element-copy-out-s Inv-loop μ-loop
 element-copy-out-s c = search needs
 
--- src/hits.rt:75:17
 sub-i : tie.Need-sub-i Inv-loop μ-loop
 sub-i c = search needs
 
--- src/hits.rt:76:34
 mul-wide : tie.Need-mul-wide Inv-loop μ-loop
 mul-wide c = search needs
 
--- src/hits.rt:76:34
 shared-slice-read-wide : tie.Need-shared-slice-read-wide Inv-loop μ-loop
 shared-slice-read-wide c = search needs
 
--- src/hits.rt:76:29
 wide-requires : tie.Need-wide-requires Inv-loop μ-loop
 wide-requires c κs = search needs
 
--- src/hits.rt:76:48
 mul-wide-2 : tie.Need-mul-wide-2 Inv-loop μ-loop
 mul-wide-2 c = search needs
 
--- src/hits.rt:76:48
 shared-slice-read-wide-2 : tie.Need-shared-slice-read-wide-2 Inv-loop μ-loop
 shared-slice-read-wide-2 c = search needs
 
--- src/hits.rt:76:43
 wide-requires-2 : tie.Need-wide-requires-2 Inv-loop μ-loop
 wide-requires-2 c κs = search needs
 
--- src/hits.rt:76:57
 wide-requires-3 : tie.Need-wide-requires-3 Inv-loop μ-loop
 wide-requires-3 c κs = search needs
 
--- src/hits.rt:76:70
 wide-requires-4 : tie.Need-wide-requires-4 Inv-loop μ-loop
 wide-requires-4 c κs = search needs
 
--- src/hits.rt:76:13
 gap-fits-requires : tie.Need-gap-fits-requires Inv-loop μ-loop
 gap-fits-requires c κs = search needs
 
--- src/hits.rt:78:13
 returns : tie.Need-returns Inv-loop μ-loop
-returns c = decides-false (λ p. (c .before .gap-fits) .ensures .no (not-true _ ((c .if1) .taken)) (rw ((c .before .before .before .before .before .before .wide) .ensures .0, (c .before .before .before .before .wide2) .ensures .0, (c .before .before .before .wide3) .ensures .0, (c .before .before .wide4) .ensures .0) (p ((c .before .before .before .before .before .before .before .before .before .before .loop) .j) ((c .before .before .before .before .before .before .before .before .before .loop-test) .taken) ((c .before .before .before .before .before .before .before .before .before .before .loop) .inv .0))))
+returns c = decides-false (λ p. c .before .gap-fits .ensures .no (not-true _ (c .if1 .taken)) (rw (c .before .before .before .before .before .before .wide .ensures .0, c .before .before .before .before .wide2 .ensures .0, c .before .before .before .wide3 .ensures .0, c .before .before .wide4 .ensures .0) (p (c .before .before .before .before .before .before .before .before .before .before .loop .j) (c .before .before .before .before .before .before .before .before .before .loop-test .taken) (c .before .before .before .before .before .before .before .before .before .before .loop .inv .0))))
 
--- src/hits.rt:80:9
 add-j : tie.Need-add-j Inv-loop μ-loop
 add-j c = search needs
 
--- src/hits.rt:73:5
 loop-less : tie.Need-loop-less Inv-loop μ-loop
 loop-less c = search needs
 
--- src/hits.rt:73:5
 loop-again : tie.Need-loop-again Inv-loop μ-loop
-loop-again c = (search needs, gaps-more ((c .before .before .before .before .before .before .before .before .before .before .before .before .args) .t1) ((c .before .before .before .before .before .before .before .before .before .before .before .before .args) .row .now) ((c .before .before .before .before .before .before .before .before .before .before .loop) .j) ((c .before .before .before .before .before .before .wide) .ensures .0) ((c .before .before .before .before .wide2) .ensures .0) ((c .before .before .before .wide3) .ensures .0) ((c .before .before .wide4) .ensures .0) ((c .before .before .before .before .before .before .before .before .before .before .loop) .inv .1) ((c .before .gap-fits) .ensures .yes (not-false _ ((c .if1) .left))))
+loop-again c = (search needs, gaps-more (c .before .before .before .before .before .before .before .before .before .before .before .before .args .t1) (c .before .before .before .before .before .before .before .before .before .before .before .before .args .row .now) (c .before .before .before .before .before .before .before .before .before .before .loop .j) (c .before .before .before .before .before .before .wide .ensures .0) (c .before .before .before .before .wide2 .ensures .0) (c .before .before .before .wide3 .ensures .0) (c .before .before .wide4 .ensures .0) (c .before .before .before .before .before .before .before .before .before .before .loop .inv .1) (c .before .gap-fits .ensures .yes (not-false _ (c .if1 .left))))
 
--- src/hits.rt:67:1
 returns-2 : tie.Need-returns-2 Inv-loop μ-loop
-returns-2 c = decides-true (λ k h l. (c .before .loop) .inv .1 k (omega (arith, (c .loop-test) .left)) l)
+returns-2 c = decides-true (λ k h l. c .before .loop .inv .1 k (omega (arith, c .loop-test .left)) l)
 
 pub gaps-fit-spec : {M : Type 1} → statement M
 gaps-fit-spec =

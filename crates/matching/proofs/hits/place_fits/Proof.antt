@@ -1,3 +1,4 @@
+-- `place_fits` meets its contract: each branch decides one condition.
 use native.Mathlib.Omega.{arith}
 use mathlib.Core.Path.{sym, _∙_}
 use mathlib.Core.Bool.{true≢false}
@@ -5,37 +6,27 @@ use Rattle.matching.proofs.Testing.{decides-false}
 use borrow.Author.Needs.{needs}
 use Rattle.matching.proofs.hits.place_fits.Statement.{statement}
 use Rattle.matching.proofs.hits.place_fits.Tie as tie
-use Rattle.matching.proofs.hits.place_fits.Reads as reads
-use Rattle.matching.proofs.hits.place_fits.Lts as lts
-use Rattle.pattern.proofs.lists.Reads as lists-reads
 
--- src/hits.rt:24:9
 returns : tie.Need-returns
-returns c = decides-false (λ p. omega (arith, (c .if1) .taken, p .low))
+returns c = decides-false (λ p. omega (arith, c .if1 .taken, p .low))
 
--- src/hits.rt:27:9
 returns-2 : tie.Need-returns-2
-returns-2 c = decides-false (λ p. omega (arith, (c .if2) .taken, p .high))
+returns-2 c = decides-false (λ p. omega (arith, c .if2 .taken, p .high))
 
--- src/hits.rt:29:13
 sub-i : tie.Need-sub-i
 sub-i c = search needs
 
--- src/hits.rt:30:34
 mul-lists : tie.Need-mul-lists
 mul-lists c = search needs
 
--- src/hits.rt:30:34
 shared-slice-read-lists : tie.Need-shared-slice-read-lists
 shared-slice-read-lists c = search needs
 
--- src/hits.rt:30:5
 lists-requires : tie.Need-lists-requires
 lists-requires c κs = search needs
 
--- src/hits.rt:20:1
 returns-3 : tie.Need-returns-3
-returns-3 c = record { yes = λ e. record { low = omega (arith, (c .before .before .before .if1) .left); high = omega (arith, (c .before .before .if2) .left); word = sym ((c .lists) .ensures) ∙ e }; no = λ e p. true≢false (sym (p .word) ∙ sym ((c .lists) .ensures) ∙ e) }
+returns-3 c = record { yes = λ e. record { low = omega (arith, c .before .before .before .if1 .left); high = omega (arith, c .before .before .if2 .left); word = sym (c .lists .ensures) ∙ e }; no = λ e p. true≢false (sym (p .word) ∙ sym (c .lists .ensures) ∙ e) }
 
 pub place-fits-spec : {M : Type 1} → statement M
 place-fits-spec =

@@ -1,3 +1,4 @@
+-- `words_fit` meets its contract. The invariant: each slot before j fits.
 use native.Mathlib.Omega.{arith}
 use Prim.Native.Nat.{ℕ, _≤_, _<_, _-_}
 use borrow.Author.Count.{below-none}
@@ -9,10 +10,6 @@ use Rattle.matching.proofs.Testing.{decides-true, decides-false, words-
 use borrow.Author.Needs.{needs}
 use Rattle.matching.proofs.hits.words_fit.Statement.{statement}
 use Rattle.matching.proofs.hits.words_fit.Tie as tie
-use Rattle.matching.proofs.hits.words_fit.Reads as reads
-use Rattle.matching.proofs.hits.words_fit.Lts as lts
-use Rattle.matching.proofs.hits.place_fits.Reads as place-fits-reads
-use Rattle.matching.proofs.places.wide.Reads as wide-reads
 
 abbrev Inv-loop : tie.InvT-loop
 Inv-loop text row pattern m j₀ j = (j ≤ m) × ((k : ℕ) → k < j → PlaceFits (slotAt pattern k .words) (slotAt pattern k .count) text (at row k))
@@ -20,53 +17,41 @@ Inv-loop text row pattern m j₀ j = (j ≤ m) × ((k : ℕ) → k < j → Place
 abbrev μ-loop : tie.MeasureT-loop
 μ-loop text row pattern m j₀ j = m - j
 
--- src/hits.rt:40:5
 loop-holds : tie.Need-loop-holds Inv-loop μ-loop
 loop-holds c = (search needs, below-none _)
 
--- src/hits.rt:41:17
 mul-s : tie.Need-mul-s Inv-loop μ-loop
 mul-s c = search needs
 
--- src/hits.rt:41:17
 element-copy-out-s : tie.Need-element-copy-out-s Inv-loop μ-loop
 element-copy-out-s c = search needs
 
--- src/hits.rt:43:54
 mul-wide : tie.Need-mul-wide Inv-loop μ-loop
 mul-wide c = search needs
 
--- src/hits.rt:43:54
 shared-slice-read-wide : tie.Need-shared-slice-read-wide Inv-loop μ-loop
 shared-slice-read-wide c = search needs
 
--- src/hits.rt:43:49
 wide-requires : tie.Need-wide-requires Inv-loop μ-loop
 wide-requires c κs = search needs
 
--- src/hits.rt:43:13
 place-fits-requires : tie.Need-place-fits-requires Inv-loop μ-loop
 place-fits-requires c κs = search needs
 
--- src/hits.rt:45:13
 returns : tie.Need-returns Inv-loop μ-loop
-returns c = decides-false (λ p. (c .before .place-fits) .ensures .no (not-true _ ((c .if1) .taken)) (rw ((c .before .before .wide) .ensures .0) (p ((c .before .before .before .before .before .before .before .loop) .j) ((c .before .before .before .before .before .before .loop-test) .taken))))
+returns c = decides-false (λ p. c .before .place-fits .ensures .no (not-true _ (c .if1 .taken)) (rw (c .before .before .wide .ensures .0) (p (c .before .before .before .before .before .before .before .loop .j) (c .before .before .before .before .before .before .loop-test .taken))))
 
--- src/hits.rt:47:9
 add-j : tie.Need-add-j Inv-loop μ-loop
 add-j c = search needs
 
--- src/hits.rt:40:5
 loop-less : tie.Need-loop-less Inv-loop μ-loop
 loop-less c = search needs
 
--- src/hits.rt:40:5
 loop-again : tie.Need-loop-again Inv-loop μ-loop
-loop-again c = (search needs, words-more ((c .before .before .before .before .before .before .before .before .before .before .args) .t1) ((c .before .before .before .before .before .before .before .before .before .before .args) .text .now) ((c .before .before .before .before .before .before .before .before .before .before .args) .row .now) ((c .before .before .before .before .before .before .before .loop) .j) ((c .before .before .wide) .ensures .0) ((c .before .before .before .before .before .before .before .loop) .inv .1) ((c .before .place-fits) .ensures .yes (not-false _ ((c .if1) .left))))
+loop-again c = (search needs, words-more (c .before .before .before .before .before .before .before .before .before .before .args .t1) (c .before .before .before .before .before .before .before .before .before .before .args .text .now) (c .before .before .before .before .before .before .before .before .before .before .args .row .now) (c .before .before .before .before .before .before .before .loop .j) (c .before .before .wide .ensures .0) (c .before .before .before .before .before .before .before .loop .inv .1) (c .before .place-fits .ensures .yes (not-false _ (c .if1 .left))))
 
--- src/hits.rt:34:1
 returns-2 : tie.Need-returns-2 Inv-loop μ-loop
-returns-2 c = decides-true (λ k h. (c .before .loop) .inv .1 k (omega (arith, (c .loop-test) .left)))
+returns-2 c = decides-true (λ k h. c .before .loop .inv .1 k (omega (arith, c .loop-test .left)))
 
 pub words-fit-spec : {M : Type 1} → statement M
 words-fit-spec =

@@ -1,3 +1,4 @@
+-- `flipped` meets its contract. The invariant: the first j places are those of the row from its end.
 use native.Mathlib.Omega.{arith}
 use Prim.Native.Nat.{ℕ, _+_, _≤_, _<_, _-_}
 use mathlib.Core.Path.{_≡_, _∙_, ap}

@@ -1,3 +1,4 @@
+-- `turned` meets its contract. The invariant: the first j slots are those of the pattern from its end.
 use native.Mathlib.Omega.{arith}
 use Prim.Native.Nat.{ℕ, _≤_, _<_, _-_}
 use mathlib.Core.Path.{_≡_, refl}

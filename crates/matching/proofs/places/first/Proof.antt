@@ -1,3 +1,4 @@
+-- `first` meets its contract. The invariant: no place from `from` on that was passed has a listed word.
 use mathlib.Core.Path.{_≡_}
 use mathlib.Core.Bool.{true}
 use lib.ListN.{take}

@@ -1,3 +1,4 @@
+-- `word` meets its contract: a place counted from the end of the text is one of the text in reverse.
 use native.Mathlib.Omega.{arith}
 use borrow.Author.Needs.{needs}
 use Rattle.matching.proofs.Reading.{seen-back, seen-on}

@@ -1,5 +1,5 @@
+-- `search` meets its contract: what is past the marks is at or after the row just past them.
 use native.Mathlib.Omega.{arith}
-use Prim.Native.Nat.{_-_}
 use mathlib.Core.Path.{sym}
 use Rattle.matching.specs.Laws.Mirror.{length-seen}
 use Rattle.matching.specs.Steps.Turning.{seen}

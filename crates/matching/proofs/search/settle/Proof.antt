@@ -1,3 +1,4 @@
+-- `settle` meets its contract. The invariant: the slots of the last `calm` visits ask no more; a raise leaves less to raise.
 use mathlib.Core.Path.{_≡_, refl, sym, _∙_}
 use lib.ListN.{length}
 use native.Mathlib.Omega.{arith}

@@ -1,3 +1,4 @@
+-- `start` meets its contract. The invariant: the first j places are one past their marks, the others 0.
 use native.Mathlib.Omega.{arith}
 use borrow.Author.Needs.{needs}
 use Prim.Native.Nat.{ℕ, _+_, _≤_, _<_, _-_}

@@ -1,53 +1,37 @@
+-- `matching::last_before` meets its contract: the tests' verdict decides, then the search's answer is the specification's.
 use native.Mathlib.Omega.{arith}
-use Prim.Native.Nat.{_≤_}
-use lib.ListN.{length}
-use mathlib.Core.Path.{_≡_, sym, _∙_}
-use Rattle.pattern.specs.declared.refusal.Verdict.the-variants.{Accepted}
-use Rattle.matching.specs.Answers.{rowVerdict}
+use mathlib.Core.Path.{sym, _∙_}
 use Rattle.matching.proofs.Answering.{RowAccepted, row-accepted, last-shown}
 use borrow.Author.Needs.{needs}
 use Rattle.matching.proofs.searches.last_before.Statement.{statement}
 use Rattle.matching.proofs.searches.last_before.Tie as tie
-use Rattle.matching.proofs.searches.last_before.Reads as reads
-use Rattle.matching.proofs.searches.last_before.Lts as lts
-use Rattle.matching.proofs.searches.row_of.Reads as row-of-reads
-use Rattle.matching.proofs.searches.row_verdict.Reads as row-verdict-reads
-use Rattle.matching.proofs.searches.search_back.Reads as search-back-reads
-use Rattle.matching.proofs.searches.shown.Reads as shown-reads
 
 accepted : (c : tie.After-enum-told) → RowAccepted (c .before .before .before .before .before .args .pattern) (c .before .before .before .before .before .args .text .now) (c .before .before .before .before .before .args .marks .now)
 accepted c = row-accepted (sym (c .before .before .row-verdict .ensures) ∙ c .enum-told .given .1)
 
--- src/searches.rt:116:9
 row-verdict-requires : tie.Need-row-verdict-requires
 row-verdict-requires c κs = search needs
 
--- src/searches.rt:117:29
 enum-known-verdict : tie.Need-enum-known-verdict
 enum-known-verdict c = search needs
 
--- src/searches.rt:118:9
 returns : tie.Need-returns
-returns c = simp (sym ((c .before .before .before .row-verdict) .ensures) ∙ (c .before .verdict) .given .1)
+returns c = simp (sym (c .before .before .before .row-verdict .ensures) ∙ c .before .verdict .given .1)
 
 enum-told : tie.Need-enum-told
 enum-told c = search needs
 
--- src/searches.rt:123:9
 row-of-requires : tie.Need-row-of-requires
 row-of-requires c κs = let a = accepted ((c)) in omega (arith, a .size, a .ready .few)
 
--- src/searches.rt:124:9
 search-back-requires : tie.Need-search-back-requires
 search-back-requires c κs = accepted ((c .before)) .ready
 
--- src/searches.rt:125:5
 shown-requires : tie.Need-shown-requires
 shown-requires c κs = search needs
 
--- src/searches.rt:113:1
 returns-2 : tie.Need-returns-2
-returns-2 c = simp (sym ((c .before .before .before .before .before .row-verdict) .ensures) ∙ (c .before .before .before .enum-told) .given .1) ((c .shown) .ensures ∙ last-shown (accepted ((c .before .before .before))) ((c .before .before .row-of) .ensures) ((c .before .search-back) .ensures))
+returns-2 c = simp (sym (c .before .before .before .before .before .row-verdict .ensures) ∙ c .before .before .before .enum-told .given .1) (c .shown .ensures ∙ last-shown (accepted ((c .before .before .before))) (c .before .before .row-of .ensures) (c .before .search-back .ensures))
 
 pub last-before-spec : {M : Type 1} → statement M
 last-before-spec =

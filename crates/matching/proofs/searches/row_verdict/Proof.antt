@@ -1,38 +1,31 @@
+-- `row_verdict` meets its contract: tests 1 to 6 are `check_with`, and test 7 is the last branch.
 use mathlib.Core.Path.{sym, _∙_}
 use borrow.Author.Tests.{eq-eqb, ne-eqb}
 use Rattle.matching.specs.Answers.{rowVerdict}
 use borrow.Author.Needs.{needs}
 use Rattle.matching.proofs.searches.row_verdict.Statement.{statement}
 use Rattle.matching.proofs.searches.row_verdict.Tie as tie
-use Rattle.matching.proofs.searches.row_verdict.Reads as reads
-use Rattle.matching.proofs.searches.row_verdict.Lts as lts
-use Rattle.pattern.proofs.Pattern.check_with.Reads as check-with-reads
 
--- src/searches.rt:31:9
 check-with-requires : tie.Need-check-with-requires
 check-with-requires c κs = search needs
 
--- src/searches.rt:32:29
 enum-known-verdict : tie.Need-enum-known-verdict
 enum-known-verdict c = search needs
 
--- src/searches.rt:33:9
 returns : tie.Need-returns
 unfolding rowVerdict
-returns c = simp (sym ((c .before .before .before .check-with) .ensures) ∙ (c .before .verdict) .given .1)
+returns c = simp (sym (c .before .before .before .check-with .ensures) ∙ c .before .verdict .given .1)
 
 enum-told : tie.Need-enum-told
 enum-told c = search needs
 
--- src/searches.rt:37:9
 returns-2 : tie.Need-returns-2
 unfolding rowVerdict
-returns-2 c = simp (sym ((c .before .before .before .check-with) .ensures) ∙ (c .before .enum-told) .given .1, ne-eqb _ _ ((c .if1) .taken))
+returns-2 c = simp (sym (c .before .before .before .check-with .ensures) ∙ c .before .enum-told .given .1, ne-eqb _ _ (c .if1 .taken))
 
--- src/searches.rt:28:1
 returns-3 : tie.Need-returns-3
 unfolding rowVerdict
-returns-3 c = simp (sym ((c .before .before .before .check-with) .ensures) ∙ (c .before .enum-told) .given .1, eq-eqb _ _ ((c .if1) .left))
+returns-3 c = simp (sym (c .before .before .before .check-with .ensures) ∙ c .before .enum-told .given .1, eq-eqb _ _ (c .if1 .left))
 
 pub row-verdict-spec : {M : Type 1} → statement M
 row-verdict-spec =

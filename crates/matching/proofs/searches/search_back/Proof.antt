@@ -1,37 +1,26 @@
+-- `search_back` meets its contract: the earliest in the mirrored text is the latest here.
 use Rattle.matching.specs.Laws.Turning.{turned-ready}
 use Rattle.matching.proofs.Answering.{back-found, back-none}
-use borrow.Author.Needs.{needs}
 use Rattle.matching.proofs.searches.search_back.Statement.{statement}
 use Rattle.matching.proofs.searches.search_back.Tie as tie
-use Rattle.matching.proofs.searches.search_back.Reads as reads
-use Rattle.matching.proofs.searches.search_back.Lts as lts
-use Rattle.matching.proofs.mirror.flipped.Reads as flipped-reads
-use Rattle.matching.proofs.mirror.turned.Reads as turned-reads
-use Rattle.matching.proofs.search.search.Reads as search-reads
 
--- src/searches.rt:64:9
 turned-requires : tie.Need-turned-requires
-turned-requires c κs = ((c .before .pre) .some, (c .before .pre) .few)
+turned-requires c κs = (c .before .pre .some, c .before .pre .few)
 
--- src/searches.rt:65:9
 flipped-requires : tie.Need-flipped-requires
-flipped-requires c κs = ((c .before .before .pre) .few, (c .before .before .pre) .short)
+flipped-requires c κs = (c .before .before .pre .few, c .before .before .pre .short)
 
--- src/searches.rt:66:9
 search-requires : tie.Need-search-requires
-search-requires c κs = turned-ready ((c .before .turned) .ensures) (c .before .before .before .pre)
+search-requires c κs = turned-ready (c .before .turned .ensures) (c .before .before .before .pre)
 
--- src/searches.rt:70:13
 flipped-requires-2 : tie.Need-flipped-requires-2
-flipped-requires-2 c κs = ((c .before .before .before .before .before .before .pre) .few, (c .before .before .before .before .before .before .pre) .short)
+flipped-requires-2 c κs = (c .before .before .before .before .before .before .pre .few, c .before .before .before .before .before .before .pre .short)
 
--- src/searches.rt:71:9
 returns : tie.Need-returns
-returns c = back-found ((c .before .before .before .before .before .turned) .ensures) (c .before .before .before .before .before .before .before .pre) ((c .before .before .before .before .flipped) .ensures) ((c .before .before .before .search) .ensures) ((c .before .before .if1) .taken) ((c .flipped2) .ensures)
+returns c = back-found (c .before .before .before .before .before .turned .ensures) (c .before .before .before .before .before .before .before .pre) (c .before .before .before .before .flipped .ensures) (c .before .before .before .search .ensures) (c .before .before .if1 .taken) (c .flipped2 .ensures)
 
--- src/searches.rt:58:1
 returns-2 : tie.Need-returns-2
-returns-2 c = back-none ((c .before .before .before .turned) .ensures) (c .before .before .before .before .before .pre) ((c .before .before .flipped) .ensures) ((c .before .search) .ensures) ((c .if1) .left)
+returns-2 c = back-none (c .before .before .before .turned .ensures) (c .before .before .before .before .before .pre) (c .before .before .flipped .ensures) (c .before .search .ensures) (c .if1 .left)
 
 pub search-back-spec : {M : Type 1} → statement M
 search-back-spec =

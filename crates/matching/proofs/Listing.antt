@@ -1,0 +1,138 @@
+-- The list calls as equations: the rows that were found are the front list or, turned round, the back list. Assumes nothing.
+use Prim.Native.Nat.{ℕ, zero, suc, _+_, _*_, _≤_, _<_}
+use native.Mathlib.Omega.{arith}
+use native.Mathlib.Nat.{mul-le-mul-right}
+use mathlib.Core.List.{List, [], _∷_, _++_, map, reverse}
+use mathlib.Core.Bool.{Bool, true, false}
+use mathlib.Core.Option.{Option, none as nothing, some as just}
+use mathlib.Core.Path.{_≡_, refl, sym, ap, _∙_}
+use lib.ListN.{length, take, drop, length-map, length-reverse}
+use lib.Seq.{take-at, drop-at}
+use lib.Dec.{ltb}
+use borrow.Author.Tests.{lt-ltb, le-ltb}
+use Rattle.pattern.specs.declared.Pattern.{Pattern}
+use Rattle.pattern.specs.declared.refusal.Refusal.{Refusal}
+use Rattle.pattern.specs.declared.refusal.Refusal.the-variants.{ListLength}
+use Rattle.pattern.specs.declared.refusal.Verdict.the-variants.{Accepted}
+use Rattle.pattern.specs.Tests.{inputVerdict}
+use Rattle.pattern.specs.Laws.Accepting.{input-accepted}
+use Rattle.matching.specs.declared.rows.Listed.the-variants.{Rows, Refused}
+use Rattle.matching.specs.Collections.{Every}
+use Rattle.matching.specs.Lists.{onward, follow, leftmost, rightmost}
+use Rattle.matching.specs.Written.{flat, written}
+use Rattle.matching.specs.Answers.{listed, filled, Best}
+use Rattle.matching.specs.Steps.Settling.{Ready}
+use Rattle.matching.specs.Steps.Turning.{seen, flip, Turned}
+use Rattle.matching.specs.Steps.Listing.{Faces, shownRows, stored}
+use Rattle.matching.specs.Laws.Collections.{every-map}
+use Rattle.matching.specs.Laws.Direction.{forwards}
+use Rattle.matching.specs.Laws.Bounding.{greedy-hits}
+use Rattle.matching.specs.Laws.Extremes.{leftmost-front, back-unique}
+use Rattle.matching.specs.Laws.Largest.{largest}
+use Rattle.matching.specs.Laws.Mirror.{length-seen, front-back-list}
+use Rattle.matching.specs.Laws.Turning.{turned-facing, turned-ready}
+use Rattle.matching.proofs.Writing.{length-flat}
+use Rattle.matching.proofs.Reversing.{flat-reversed}
+
+-- ---- as many rows as words at the most
+
+onward-length : (o : Option (List ℕ)) (rest : List ℕ → List (List ℕ)) (n : ℕ) → ((r : List ℕ) → length (rest r) ≤ n) → length (onward o rest) ≤ suc n
+unfolding onward
+onward-length nothing rest n h = omega arith
+onward-length (just r) rest n h = omega (arith, h r)
+
+follow-length : (search : List ℕ → Option (List ℕ)) (n : ℕ) (marks : List ℕ) → length (follow search n marks) ≤ n
+unfolding follow
+follow-length search zero marks = omega arith
+follow-length search (suc n) marks = onward-length (search marks) (λ r. follow search n r) n (λ r. follow-length search n r)
+
+leftmost-length : (g : Pattern) (u : List ℕ) → length (leftmost g u) ≤ length u
+unfolding leftmost
+leftmost-length g u = follow-length _ (length u) _
+
+-- a list with an entry for each word and slot has room for them
+pub room-always : (g : Pattern) (b : Bool) (t : List ℕ) {m size : ℕ} → g .count ≡ m → length t * m ≤ size → length (leftmost g (seen b t)) * g .count ≤ size
+room-always g b t {m} e h =
+    let k = mul-le-mul-right {m = length (leftmost g (seen b t))} {n = length t} m (omega (arith, leftmost-length g (seen b t), length-seen b t)) in
+    omega (arith, ap (λ (x : ℕ). length (leftmost g (seen b t)) * x) e)
+
+-- ---- the rows turned round
+
+sizes : (g : Pattern) (u : List ℕ) → 1 ≤ g .count → Every (λ r. length r ≡ g .count) (leftmost g u)
+sizes g u some = every-map (λ r o. o .size) (greedy-hits (forwards (g .count)) (leftmost-front g u some))
+
+pub turned-written : (g : Pattern) (u : List ℕ) → 1 ≤ g .count → (n rows : ℕ) (l₀ : List ℕ) {l l′ : List ℕ} → rows ≡ length (leftmost g u) → l ≡ written (g .count) (leftmost g u) l₀
+    → l′ ≡ flip n (take (rows * g .count) l) ++ drop (rows * g .count) l → l′ ≡ written (g .count) (reverse (map (flip n) (leftmost g u))) l₀
+turned-written g u some n rows l₀ {l} {l′} r q e =
+    let m = g .count in
+    let F = leftmost g u in
+    let D = drop (length F * m) l₀ in
+    let s : length (flat F) ≡ rows * m = length-flat m (sizes g u some) ∙ ap (λ (x : ℕ). x * m) (sym r) in
+    let a : take (rows * m) l ≡ flat F = ap (take (rows * m)) q ∙ take-at (flat F) D (rows * m) s in
+    let b : drop (rows * m) l ≡ D = ap (drop (rows * m)) q ∙ drop-at (flat F) D (rows * m) s in
+    let k : length F ≡ length (reverse (map (flip n) F)) = sym (length-reverse (map (flip n) F) ∙ length-map F (flip n)) in
+    e ∙ ap (λ (x : List ℕ). flip n x ++ drop (rows * m) l) a
+    ∙ ap (λ (x : List ℕ). flip n (flat F) ++ x) b
+    ∙ ap (λ (x : List ℕ). x ++ D) (flat-reversed n F)
+    ∙ ap (λ (x : ℕ). flat (reverse (map (flip n) F)) ++ drop (x * m) l₀) k
+
+pub stored-back : (b : Bool) → b ≡ true → (n : ℕ) (R : List (List ℕ)) → shownRows b n R ≡ reverse (map (flip n) R)
+stored-back b e n R = rw e
+
+pub stored-on : (b : Bool) → b ≡ false → (n : ℕ) (R : List (List ℕ)) → shownRows b n R ≡ R
+stored-on b e n R = rw e
+
+-- ---- what was found is the front list or the back list
+
+module _ {f g : Pattern} {t : List ℕ} (ok : Ready f t) where
+  pub faces-ready : (b : Bool) → Faces b f g → Ready g (seen b t)
+  faces-ready true F = turned-ready (F .back refl) ok
+  faces-ready false F = rw (F .on refl) ok
+
+  pub faces-list : (b : Bool) → Faces b f g → shownRows b (length t) (leftmost g (seen b t)) ≡ stored b f t
+  faces-list true F =
+      let T = F .back refl in
+      back-unique f t (ok .some) (front-back-list (turned-facing T t) (ok .some) (ok .short) (leftmost-front g (reverse t) (omega (arith, T .count, ok .some))))
+  faces-list false F = ap (λ (x : Pattern). leftmost x t) (F .on refl)
+
+length-shown : (b : Bool) (n : ℕ) (R : List (List ℕ)) → length (shownRows b n R) ≡ length R
+length-shown true n R = length-reverse (map (flip n) R) ∙ length-map R (flip n)
+length-shown false n R = refl
+
+-- ---- the answer and the content, once the tests are passed
+
+module _ (b : Bool) {f g : Pattern} {t : List ℕ} (l : List ℕ) (ok : Ready f t) (F : Faces b f g) where
+  abbrev N : ℕ
+  N = length (stored b f t)
+
+  abbrev found : ℕ
+  found = length (leftmost g (seen b t))
+
+  found-is : found ≡ N
+  found-is = sym (length-shown b (length t) (leftmost g (seen b t))) ∙ ap length (faces-list ok b F)
+
+  product : {rows : ℕ} → rows ≡ found → rows * f .count ≡ N * f .count
+  product e = ap (λ (x : ℕ). x * f .count) (e ∙ found-is)
+
+  pub listed-short : {rows : ℕ} → rows ≡ found → length l < rows * f .count → Refused (ListLength rows) ≡ listed Accepted (f .count) (stored b f t) (length l)
+  listed-short {rows} e k = rw (lt-ltb (length l) (N * f .count) (omega (arith, product e)), e ∙ found-is)
+
+  pub filled-short : {rows : ℕ} → rows ≡ found → length l < rows * f .count → l ≡ filled Accepted (f .count) (stored b f t) l
+  filled-short e k = rw (lt-ltb (length l) (N * f .count) (omega (arith, product e)))
+
+  module _ (room : found * g .count ≤ length l) where
+    fits : N * f .count ≤ length l
+    fits = omega (arith, product {rows = found} refl, ap (λ (x : ℕ). found * x) (F .count))
+
+    pub listed-done : Rows found ≡ listed Accepted (f .count) (stored b f t) (length l)
+    listed-done = rw (le-ltb (length l) (N * f .count) fits, found-is)
+
+    pub filled-done : {l′ : List ℕ} → l′ ≡ written (g .count) (shownRows b (length t) (leftmost g (seen b t))) l → l′ ≡ filled Accepted (f .count) (stored b f t) l
+    filled-done q =
+        rw (le-ltb (length l) (N * f .count) fits)
+        (q ∙ ap (λ (x : ℕ). written x (shownRows b (length t) (leftmost g (seen b t))) l) (F .count) ∙ ap (λ (R : List (List ℕ)). written (f .count) R l) (faces-list ok b F))
+
+-- ---- demand 3
+
+pub best : (f : Pattern) (t : List ℕ) → Best f t
+best f t e = largest (input-accepted f (length t) .0 e)
