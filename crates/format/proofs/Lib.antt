@@ -4,4 +4,5 @@ mod LineSteps
 mod PartSteps
 mod SlotSteps
 mod TextSteps
+mod InputSteps
 mod PatternSteps

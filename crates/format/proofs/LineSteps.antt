@@ -61,9 +61,6 @@ scanned ok s at n = scan (lines (drop at s)) ok (ended (drop at s) 10) n
 
 -- at a place of s, with e the place of the next byte 10 or the end
 module _ (s : List ℕ) (at e : ℕ) (is : e ≡ at + cut (drop at s) 10) where
-  pub line : List ℕ
-  line = take (e - at) (drop at s)
-
   pub closed-lines : e < length s → lines (drop at s) ≡ take (e - at) (drop at s) ∷ lines (drop (e + 1) s)
   closed-lines h =
       let k : cut (drop at s) 10 ≡ e - at = omega arith in

@@ -4,5 +4,6 @@ pub mod Layouts
 pub mod Names
 pub mod Texts
 pub mod Patterns
+pub mod Input
 pub mod Shown
 pub mod Laws

@@ -1,6 +1,7 @@
 // The text format (document 01: sheets): reading patterns and texts from bytes.
 mod bytes;
 mod fields;
+mod input;
 mod layout;
 mod names;
 mod numbers;
@@ -8,6 +9,8 @@ mod patterns;
 mod texts;
 mod values;
 
+pub use input::InputRead;
+pub use input::read_input;
 pub use patterns::PatternRead;
 pub use patterns::read_pattern;
 pub use texts::TextRead;
