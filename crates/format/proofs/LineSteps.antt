@@ -7,15 +7,16 @@ use mathlib.Core.Bool.{Bool, true, false}
 use mathlib.Core.List.{List, [], _∷_, _++_, map}
 use mathlib.Core.Path.{_≡_, refl, sym, _∙_, ap}
 use lib.Dec.{eqb, ltb}
-use lib.ListN.{length, getD, take, drop, set, length-drop}
+use lib.ListN.{length, getD, take, drop, set, drop-of-length-le, length-drop}
 use lib.Seq.{drop-cons, drop-drop, drop-length, paste, paste-suc, take-all, take-length}
-use borrow.Author.Tests.{eqb-true, ltb-false, ltb-true}
+use borrow.Author.Tests.{eqb-true, le-ltb, lt-ltb, ltb-false, ltb-true}
 use Rattle.pattern.specs.Tests.{pick}
 use Rattle.format.specs.Bytes.{cut, decimal, ended, lines, onFirst}
 use Rattle.format.specs.Layouts.{scan}
 use Rattle.format.specs.Texts.{over}
 use Rattle.format.specs.declared.layout.Layout.{Layout}
 use Rattle.format.specs.declared.layout.Layout.the-variants.{Right, Wrong}
+use Rattle.format.specs.Lines.{lineAt}
 
 lines-cut : (t : List ℕ) → cut t 10 < length t → lines t ≡ take (cut t 10) t ∷ lines (drop (suc (cut t 10)) t)
 unfolding cut lines
@@ -179,3 +180,20 @@ pasted-all d ws =
 -- the part scanned `at` to the end
 pub tail-is : (xs : List ℕ) (at : ℕ) → at ≤ length xs → take (length xs - at) (drop at xs) ≡ drop at xs
 tail-is xs at h = take-all (length xs - at) (drop at xs) (omega (arith, length-drop at xs))
+
+-- ---- the line at a place
+
+pub line-past : (s : List ℕ) (at : ℕ) → length s ≤ at → record { end = at; next = at } ≡ lineAt s at
+unfolding lineAt cut
+line-past s at h =
+    let d : drop at s ≡ [] = drop-of-length-le s {i = at} h in
+    rw d (let e : at + 0 ≡ at = omega arith in rw (e, le-ltb at (length s) h))
+
+module _ (s : List ℕ) (at e : ℕ) (is : e ≡ at + cut (drop at s) 10) where
+  pub line-open : e ≡ length s → record { end = e; next = e } ≡ lineAt s at
+  unfolding lineAt
+  line-open h = let k : length s ≤ e = omega arith in rw (sym is) (rw (le-ltb e (length s) k))
+
+  pub line-closed : e < length s → record { end = e; next = e + 1 } ≡ lineAt s at
+  unfolding lineAt
+  line-closed h = rw (sym is) (rw (lt-ltb e (length s) h))

@@ -1,5 +1,6 @@
 -- The text format: what a file's bytes mean, or why they are refused; and what a file that shows something looks like. `Laws` has what follows, first that the two agree.
 pub mod Bytes
+pub mod Lines
 pub mod Layouts
 pub mod Names
 pub mod Texts

@@ -6,6 +6,7 @@ mod layout;
 mod names;
 mod numbers;
 mod patterns;
+mod reader;
 mod texts;
 mod values;
 
@@ -13,6 +14,11 @@ pub use input::InputRead;
 pub use input::read_input;
 pub use patterns::PatternRead;
 pub use patterns::read_pattern;
+pub use reader::Line;
+pub use reader::Reader;
+pub use reader::line_at;
+pub use reader::next_line;
+pub use reader::resume;
 pub use texts::TextRead;
 pub use texts::read_text;
 
