@@ -1,5 +1,6 @@
 -- A file's lines at a place: a line that is closed, one that is left open, and the end. Assumes nothing.
 use Prim.Native.Nat.{ℕ, suc, _+_, _-_, _≤_, _<_}
+use native.Mathlib.Decide.{ℕ-discrete}
 use native.Mathlib.Nat.{zero-add}
 use native.Mathlib.Numerals.{add-one}
 use native.Mathlib.Omega.{arith}
@@ -16,7 +17,8 @@ use Rattle.format.specs.Layouts.{scan}
 use Rattle.format.specs.Texts.{over}
 use Rattle.format.specs.declared.layout.Layout.{Layout}
 use Rattle.format.specs.declared.layout.Layout.the-variants.{Right, Wrong}
-use Rattle.format.specs.Lines.{lineAt}
+use Rattle.format.specs.declared.reader.Line.{Line}
+use Rattle.format.specs.Lines.{lineAt, lineEnd}
 
 lines-cut : (t : List ℕ) → cut t 10 < length t → lines t ≡ take (cut t 10) t ∷ lines (drop (suc (cut t 10)) t)
 unfolding cut lines
@@ -56,44 +58,95 @@ ended-none (b ∷ t) p h k = go (eqb b 10) refl h (ended-none t b)
     go true e m r = absurd (omega arith)
     go false e m r = r (omega arith) (λ _. e)
 
--- what a scan finds scanned a place on
+-- ---- the line l at a place of s
+
+pub record Lined (s : List ℕ) (at : ℕ) (l : Line) : Type 0 where
+  pub is : l .end ≡ at + cut (drop at s) 10
+  pub within : l .end ≤ length s
+  pub last : l .end ≡ l .next → l .end ≡ length s
+  pub after : (l .end ≡ l .next → ⊥) → (l .end < length s) × (l .next ≡ l .end + 1)
+
+-- it is left open
+pub record Open (s : List ℕ) (at : ℕ) (l : Line) : Type 0 where
+  pub is : l .end ≡ at + cut (drop at s) 10
+  pub last : l .end ≡ length s
+
+-- it is closed
+pub record Closed (s : List ℕ) (at : ℕ) (l : Line) : Type 0 where
+  pub is : l .end ≡ at + cut (drop at s) 10
+  pub inside : l .end < length s
+  pub after : l .next ≡ l .end + 1
+
+pub open-line : {s : List ℕ} {at : ℕ} {l : Line} → Lined s at l → l .end ≡ l .next → Open s at l
+open-line h e = record { is = h .is; last = h .last e }
+
+pub closed-line : {s : List ℕ} {at : ℕ} {l : Line} → Lined s at l → (l .end ≡ l .next → ⊥) → Closed s at l
+closed-line h e = record { is = h .is; inside = h .after e .0; after = h .after e .1 }
+
+cut-within : (t : List ℕ) (sep : ℕ) → cut t sep ≤ length t
+unfolding cut
+cut-within [] sep = omega arith
+cut-within (b ∷ t) sep = go (eqb b sep) (cut-within t sep)
+  where
+    go : (x : Bool) → cut t sep ≤ length t → pick x 0 (suc (cut t sep)) ≤ suc (length t)
+    go true h = omega arith
+    go false h = omega arith
+
+-- the line that is found at a place
+pub lined : (s : List ℕ) (at : ℕ) (l : Line) → l ≡ lineAt s at → at ≤ length s → Lined s at l
+unfolding lineAt
+lined s at l e h = go (ltb (lineEnd s at) (length s)) refl (ap (λ (k : Line). k .end) e) (ap (λ (k : Line). k .next) e)
+  where
+    go : (x : Bool) → ltb (lineEnd s at) (length s) ≡ x → l .end ≡ lineEnd s at → l .next ≡ pick x (lineEnd s at + 1) (lineEnd s at) → Lined s at l
+    go true q p n =
+        let k : l .end < length s = omega (arith, ltb-true (lineEnd s at) (length s) q) in
+        record { is = p; within = omega arith; last = λ z. absurd (omega arith); after = λ z. (k, omega arith) }
+    go false q p n =
+        let k : length s ≤ l .end = omega (arith, ltb-false (lineEnd s at) (length s) q) in
+        let m : l .end ≤ length s = omega (arith, cut-within (drop at s) 10, length-drop at s) in
+        record { is = p; within = m; last = λ z. omega arith; after = λ z. absurd (z (p ∙ sym n)) }
+
+-- ---- the lines from a place on
+
+module _ {s : List ℕ} {at : ℕ} {l : Line} (c : Closed s at l) where
+  pub closed-lines : lines (drop at s) ≡ take (l .end - at) (drop at s) ∷ lines (drop (l .next) s)
+  closed-lines =
+      let k : cut (drop at s) 10 ≡ l .end - at = omega (arith, c .is) in
+      let i : cut (drop at s) 10 < length (drop at s) = omega (arith, c .is, c .inside, length-drop at s) in
+      let j : at + suc (cut (drop at s) 10) ≡ l .next = omega (arith, c .is, c .after) in
+      lines-cut (drop at s) i ∙ ap (λ (n : ℕ). take n (drop at s) ∷ lines (drop (suc (cut (drop at s) 10)) (drop at s))) k
+      ∙ ap (λ (t : List ℕ). take (l .end - at) (drop at s) ∷ lines t) (drop-drop (suc (cut (drop at s) 10)) at s ∙ ap (λ (n : ℕ). drop n s) j)
+
+  pub closed-ended : (p : ℕ) → ended (drop at s) p ≡ ended (drop (l .next) s) 10
+  closed-ended p =
+      let i : cut (drop at s) 10 < length (drop at s) = omega (arith, c .is, c .inside, length-drop at s) in
+      let j : at + suc (cut (drop at s) 10) ≡ l .next = omega (arith, c .is, c .after) in
+      ended-cut (drop at s) p i ∙ ap (λ (t : List ℕ). ended t 10) (drop-drop (suc (cut (drop at s) 10)) at s ∙ ap (λ (n : ℕ). drop n s) j)
+
+module _ {s : List ℕ} {at : ℕ} {l : Line} (c : Open s at l) where
+  pub open-lines : lines (drop at s) ≡ []
+  open-lines = lines-none (drop at s) (omega (arith, c .is, c .last, length-drop at s))
+
+  open-ended : at < length s → ended (drop at s) 10 ≡ false
+  open-ended k = ended-none (drop at s) 10 (omega (arith, c .is, c .last, length-drop at s)) (λ z. absurd (omega (arith, length-drop at s)))
+
+-- ---- what a scan finds from a place on
+
 abbrev pub scanned : (List ℕ → Bool) → List ℕ → ℕ → ℕ → Layout
 scanned ok s at n = scan (lines (drop at s)) ok (ended (drop at s) 10) n
 
--- at a place of s, with e the place of the next byte 10 or the end
-module _ (s : List ℕ) (at e : ℕ) (is : e ≡ at + cut (drop at s) 10) where
-  pub closed-lines : e < length s → lines (drop at s) ≡ take (e - at) (drop at s) ∷ lines (drop (e + 1) s)
-  closed-lines h =
-      let k : cut (drop at s) 10 ≡ e - at = omega arith in
-      let l : cut (drop at s) 10 < length (drop at s) = omega (arith, length-drop at s) in
-      let j : at + suc (cut (drop at s) 10) ≡ e + 1 = omega arith in
-      lines-cut (drop at s) l ∙ ap (λ (n : ℕ). take n (drop at s) ∷ lines (drop (suc (cut (drop at s) 10)) (drop at s))) k
-      ∙ ap (λ (t : List ℕ). take (e - at) (drop at s) ∷ lines t) (drop-drop (suc (cut (drop at s) 10)) at s ∙ ap (λ (n : ℕ). drop n s) j)
+module _ {s : List ℕ} {at : ℕ} {l : Line} (ok : List ℕ → Bool) (n : ℕ) where
+  pub scan-next : Closed s at l → ok (take (l .end - at) (drop at s)) ≡ true → scanned ok s at n ≡ scanned ok s (l .next) (n + 1)
+  unfolding scan
+  scan-next c k = rw (closed-lines c, closed-ended c 10) (simp k)
 
-  pub closed-ended : (p : ℕ) → e < length s → ended (drop at s) p ≡ ended (drop (e + 1) s) 10
-  closed-ended p h =
-      let l : cut (drop at s) 10 < length (drop at s) = omega (arith, length-drop at s) in
-      let j : at + suc (cut (drop at s) 10) ≡ e + 1 = omega arith in
-      ended-cut (drop at s) p l ∙ ap (λ (t : List ℕ). ended t 10) (drop-drop (suc (cut (drop at s) 10)) at s ∙ ap (λ (n : ℕ). drop n s) j)
+  pub scan-wrong : Closed s at l → ok (take (l .end - at) (drop at s)) ≡ false → scanned ok s at n ≡ Wrong n
+  unfolding scan
+  scan-wrong c k = rw (closed-lines c) (simp k)
 
-  pub open-lines : e ≡ length s → lines (drop at s) ≡ []
-  open-lines h = lines-none (drop at s) (omega (arith, length-drop at s))
-
-  pub open-ended : e ≡ length s → at < length s → ended (drop at s) 10 ≡ false
-  open-ended h k = ended-none (drop at s) 10 (omega (arith, length-drop at s)) (λ z. absurd (omega (arith, length-drop at s)))
-
-  module _ (ok : List ℕ → Bool) (n : ℕ) where
-    pub scan-next : e < length s → ok (take (e - at) (drop at s)) ≡ true → scanned ok s at n ≡ scanned ok s (e + 1) (n + 1)
-    unfolding scan
-    scan-next h k = rw (closed-lines h, closed-ended 10 h) (simp k)
-
-    pub scan-wrong : e < length s → ok (take (e - at) (drop at s)) ≡ false → scanned ok s at n ≡ Wrong n
-    unfolding scan
-    scan-wrong h k = rw (closed-lines h) (simp k)
-
-    pub scan-open : e ≡ length s → at < length s → scanned ok s at n ≡ Wrong n
-    unfolding scan
-    scan-open h k = rw (open-lines h, open-ended h k)
+  pub scan-open : Open s at l → at < length s → scanned ok s at n ≡ Wrong n
+  unfolding scan
+  scan-open c k = rw (open-lines c, open-ended c k)
 
 pub scan-end : (s : List ℕ) (ok : List ℕ → Bool) (n : ℕ) → scanned ok s (length s) n ≡ Right n
 unfolding scan lines ended
@@ -117,40 +170,40 @@ scan-count (l ∷ ls) ok closed n m e = go (ok l) e (scan-count ls ok closed (n 
     go false q r = absurd (wrong-right n m q)
 
 -- what a scan that is right says of the line at a place
-pub record Stepped (ok : List ℕ → Bool) (s : List ℕ) (at e n m : ℕ) : Type 0 where
-  pub closed : e < length s
-  pub good : ok (take (e - at) (drop at s)) ≡ true
-  pub rest : scanned ok s (e + 1) (n + 1) ≡ Right m
+pub record Stepped (ok : List ℕ → Bool) (s : List ℕ) (at : ℕ) (l : Line) (n m : ℕ) : Type 0 where
+  pub line : Closed s at l
+  pub good : ok (take (l .end - at) (drop at s)) ≡ true
+  pub rest : scanned ok s (l .next) (n + 1) ≡ Right m
   pub fewer : n < m
 
-module _ (s : List ℕ) (at e : ℕ) (is : e ≡ at + cut (drop at s) 10) (within : e ≤ length s) (inside : at < length s) (ok : List ℕ → Bool) (n m : ℕ) (right : scanned ok s at n ≡ Right m) where
-  is-closed : e < length s
-  is-closed = go (ltb e (length s)) refl
-    where
-      go : (x : Bool) → ltb e (length s) ≡ x → e < length s
-      go true q = ltb-true e (length s) q
-      go false q = absurd (wrong-right n m (sym (scan-open s at e is ok n (omega (arith, ltb-false e (length s) q)) inside) ∙ right))
+module _ {s : List ℕ} {at : ℕ} {l : Line} (h : Lined s at l) (inside : at < length s) (ok : List ℕ → Bool) (n m : ℕ) (right : scanned ok s at n ≡ Right m) where
+  is-closed : Closed s at l
+  is-closed = elim (ℕ-discrete (l .end) (l .next)) [
+    | yes e ↦ absurd (wrong-right n m (sym (scan-open ok n (open-line h e) inside) ∙ right))
+    | no e ↦ closed-line h e
+  ]
 
-  is-good : (x : Bool) → ok (take (e - at) (drop at s)) ≡ x → ok (take (e - at) (drop at s)) ≡ true
+  is-good : (x : Bool) → ok (take (l .end - at) (drop at s)) ≡ x → ok (take (l .end - at) (drop at s)) ≡ true
   is-good true q = q
-  is-good false q = absurd (wrong-right n m (sym (scan-wrong s at e is ok n is-closed q) ∙ right))
+  is-good false q = absurd (wrong-right n m (sym (scan-wrong ok n is-closed q) ∙ right))
 
-  pub stepped : Stepped ok s at e n m
+  pub stepped : Stepped ok s at l n m
   stepped =
-      let g = is-good (ok (take (e - at) (drop at s))) refl in
+      let g = is-good (ok (take (l .end - at) (drop at s))) refl in
       record {
-        closed = is-closed;
+        line = is-closed;
         good = g;
-        rest = sym (scan-next s at e is ok n is-closed g) ∙ right;
-        fewer = omega (arith, scan-count (lines (drop at s)) ok (ended (drop at s) 10) n m right, ap (λ (l : List (List ℕ)). length l) (closed-lines s at e is is-closed));
+        rest = sym (scan-next ok n is-closed g) ∙ right;
+        fewer = omega (arith, scan-count (lines (drop at s)) ok (ended (drop at s) 10) n m right, ap (λ (ls : List (List ℕ)). length ls) (closed-lines is-closed));
       }
 
--- the values of the lines, scanned a place on
+-- ---- the words of the lines from a place on
+
 abbrev pub values : List ℕ → ℕ → List ℕ
 values s at = map decimal (lines (drop at s))
 
-pub values-next : (s : List ℕ) (at e v : ℕ) → e ≡ at + cut (drop at s) 10 → e < length s → v ≡ decimal (take (e - at) (drop at s)) → values s at ≡ v ∷ values s (e + 1)
-values-next s at e v is h k = rw (closed-lines s at e is h, k)
+pub values-next : {s : List ℕ} {at : ℕ} {l : Line} → Closed s at l → (v : ℕ) → v ≡ decimal (take (l .end - at) (drop at s)) → values s at ≡ v ∷ values s (l .next)
+values-next c v k = rw (closed-lines c, k)
 
 pub values-end : (s : List ℕ) → values s (length s) ≡ []
 unfolding lines
@@ -177,7 +230,7 @@ pub pasted-all : (d ws : List ℕ) → paste d 0 ws (length ws) ≡ over d ws
 pasted-all d ws =
     ap (λ (l : List ℕ). l ++ drop (0 + length ws) d) (take-length ws) ∙ ap (λ (k : ℕ). ws ++ drop k d) (zero-add (length ws))
 
--- the part scanned `at` to the end
+-- the part from `at` to the end
 pub tail-is : (xs : List ℕ) (at : ℕ) → at ≤ length xs → take (length xs - at) (drop at xs) ≡ drop at xs
 tail-is xs at h = take-all (length xs - at) (drop at xs) (omega (arith, length-drop at xs))
 

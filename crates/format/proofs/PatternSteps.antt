@@ -7,54 +7,55 @@ use mathlib.Core.Path.{_≡_, sym, _∙_, ap}
 use lib.ListN.{length, take, drop}
 use borrow.Author.Tests.{le-ltb, lt-ltb}
 use Rattle.pattern.specs.declared.refusal.Refusal.the-variants.{FileLength, Names, Values}
-use Rattle.format.specs.Bytes.{cut, ended, field, fields, lines, value}
+use Rattle.format.specs.Bytes.{ended, field, fields, lines, value}
 use Rattle.format.specs.Names.{column, columnsOf, leastName, mostName, slotNames, spanNames}
 use Rattle.format.specs.Patterns.{fromNames, fromSlotNames, fromSlots, fromValues, judged, patternContents, patternOf, patternRead, readSlot, refusedPattern, shownPattern, slotLines, slotValues, spanValues}
 use Rattle.format.specs.declared.layout.Layout.the-variants.{Right, Wrong}
 use Rattle.format.specs.declared.names.Columns.{Columns}
-use Rattle.format.proofs.LineSteps.{closed-ended, closed-lines, open-lines, scan-count}
+use Rattle.format.specs.declared.reader.Line.{Line}
+use Rattle.format.proofs.LineSteps.{Closed, Open, closed-ended, closed-lines, open-lines, scan-count}
 
--- ---- the lines, with e the place of the next byte 10 or the end
+-- ---- the lines, with l the line at a place
 
-module _ (s : List ℕ) (at e : ℕ) (is : e ≡ at + cut (drop at s) 10) where
+module _ {s : List ℕ} {at : ℕ} {l : Line} where
   module _ (least most : ℕ) where
-    pub names-3-open : e ≡ length s → patternOf (fromSlotNames (lines (drop at s)) least most (ended (drop at s) 10)) ≡ refusedPattern (Names 3)
-    names-3-open h = rw (open-lines s at e is h)
+    pub names-3-open : Open s at l → patternOf (fromSlotNames (lines (drop at s)) least most (ended (drop at s) 10)) ≡ refusedPattern (Names 3)
+    names-3-open h = rw (open-lines h)
 
-    pub names-3-wrong : e < length s → slotNames (take (e - at) (drop at s)) ≡ false → patternOf (fromSlotNames (lines (drop at s)) least most (ended (drop at s) 10)) ≡ refusedPattern (Names 3)
-    names-3-wrong h k = rw (closed-lines s at e is h) (rw k)
+    pub names-3-wrong : Closed s at l → slotNames (take (l .end - at) (drop at s)) ≡ false → patternOf (fromSlotNames (lines (drop at s)) least most (ended (drop at s) 10)) ≡ refusedPattern (Names 3)
+    names-3-wrong h k = rw (closed-lines h) (rw k)
 
-    module _ (h : e < length s) (k : slotNames (take (e - at) (drop at s)) ≡ true) (c : Columns) (ec : c ≡ columnsOf (take (e - at) (drop at s))) where
-      is-slots : fromSlotNames (lines (drop at s)) least most (ended (drop at s) 10) ≡ fromSlots (slotLines c (drop (e + 1) s)) c least most (lines (drop (e + 1) s))
+    module _ (h : Closed s at l) (k : slotNames (take (l .end - at) (drop at s)) ≡ true) (c : Columns) (ec : c ≡ columnsOf (take (l .end - at) (drop at s))) where
+      is-slots : fromSlotNames (lines (drop at s)) least most (ended (drop at s) 10) ≡ fromSlots (slotLines c (drop (l .next) s)) c least most (lines (drop (l .next) s))
       unfolding slotLines
-      is-slots = rw (closed-lines s at e is h, closed-ended s at e is 10 h) (rw k (rw ec))
+      is-slots = rw (closed-lines h, closed-ended h 10) (rw k (rw ec))
 
-      pub slots-wrong : (n : ℕ) → Wrong n ≡ slotLines c (drop (e + 1) s) → patternOf (fromSlotNames (lines (drop at s)) least most (ended (drop at s) 10)) ≡ refusedPattern (Values (n + 4))
+      pub slots-wrong : (n : ℕ) → Wrong n ≡ slotLines c (drop (l .next) s) → patternOf (fromSlotNames (lines (drop at s)) least most (ended (drop at s) 10)) ≡ refusedPattern (Values (n + 4))
       slots-wrong n w = ap patternOf is-slots ∙ rw (sym w)
 
-      pub slots-right : (n : ℕ) → Right n ≡ slotLines c (drop (e + 1) s) → patternOf (fromSlotNames (lines (drop at s)) least most (ended (drop at s) 10)) ≡ judged (shownPattern least most (map (readSlot c) (lines (drop (e + 1) s))))
+      pub slots-right : (n : ℕ) → Right n ≡ slotLines c (drop (l .next) s) → patternOf (fromSlotNames (lines (drop at s)) least most (ended (drop at s) 10)) ≡ judged (shownPattern least most (map (readSlot c) (lines (drop (l .next) s))))
       slots-right n w = ap patternOf is-slots ∙ rw (sym w)
 
   module _ (i j : ℕ) where
-    pub values-open : e ≡ length s → patternOf (fromValues (lines (drop at s)) i j (ended (drop at s) 10)) ≡ refusedPattern (Values 2)
-    values-open h = rw (open-lines s at e is h)
+    pub values-open : Open s at l → patternOf (fromValues (lines (drop at s)) i j (ended (drop at s) 10)) ≡ refusedPattern (Values 2)
+    values-open h = rw (open-lines h)
 
-    pub values-wrong : e < length s → spanValues (take (e - at) (drop at s)) ≡ false → patternOf (fromValues (lines (drop at s)) i j (ended (drop at s) 10)) ≡ refusedPattern (Values 2)
-    values-wrong h k = rw (closed-lines s at e is h) (rw k)
+    pub values-wrong : Closed s at l → spanValues (take (l .end - at) (drop at s)) ≡ false → patternOf (fromValues (lines (drop at s)) i j (ended (drop at s) 10)) ≡ refusedPattern (Values 2)
+    values-wrong h k = rw (closed-lines h) (rw k)
 
-    pub values-right : e < length s → spanValues (take (e - at) (drop at s)) ≡ true → (least most : ℕ) → least ≡ value (field (take (e - at) (drop at s)) i) → most ≡ value (field (take (e - at) (drop at s)) j)
-        → patternOf (fromValues (lines (drop at s)) i j (ended (drop at s) 10)) ≡ patternOf (fromSlotNames (lines (drop (e + 1) s)) least most (ended (drop (e + 1) s) 10))
-    values-right h k least most el em = rw (closed-lines s at e is h, closed-ended s at e is 10 h) (rw k (rw (el, em)))
+    pub values-right : Closed s at l → spanValues (take (l .end - at) (drop at s)) ≡ true → (least most : ℕ) → least ≡ value (field (take (l .end - at) (drop at s)) i) → most ≡ value (field (take (l .end - at) (drop at s)) j)
+        → patternOf (fromValues (lines (drop at s)) i j (ended (drop at s) 10)) ≡ patternOf (fromSlotNames (lines (drop (l .next) s)) least most (ended (drop (l .next) s) 10))
+    values-right h k least most el em = rw (closed-lines h, closed-ended h 10) (rw k (rw (el, em)))
 
-  pub names-open : e ≡ length s → patternOf (fromNames (lines (drop at s)) (ended (drop at s) 10)) ≡ refusedPattern (Names 1)
-  names-open h = rw (open-lines s at e is h)
+  pub names-open : Open s at l → patternOf (fromNames (lines (drop at s)) (ended (drop at s) 10)) ≡ refusedPattern (Names 1)
+  names-open h = rw (open-lines h)
 
-  pub names-wrong : e < length s → spanNames (take (e - at) (drop at s)) ≡ false → patternOf (fromNames (lines (drop at s)) (ended (drop at s) 10)) ≡ refusedPattern (Names 1)
-  names-wrong h k = rw (closed-lines s at e is h) (rw k)
+  pub names-wrong : Closed s at l → spanNames (take (l .end - at) (drop at s)) ≡ false → patternOf (fromNames (lines (drop at s)) (ended (drop at s) 10)) ≡ refusedPattern (Names 1)
+  names-wrong h k = rw (closed-lines h) (rw k)
 
-  pub names-right : e < length s → spanNames (take (e - at) (drop at s)) ≡ true → (i j : ℕ) → i ≡ column (fields (take (e - at) (drop at s))) leastName → j ≡ column (fields (take (e - at) (drop at s))) mostName
-      → patternOf (fromNames (lines (drop at s)) (ended (drop at s) 10)) ≡ patternOf (fromValues (lines (drop (e + 1) s)) i j (ended (drop (e + 1) s) 10))
-  names-right h k i j ei ej = rw (closed-lines s at e is h, closed-ended s at e is 10 h) (rw k (rw (ei, ej)))
+  pub names-right : Closed s at l → spanNames (take (l .end - at) (drop at s)) ≡ true → (i j : ℕ) → i ≡ column (fields (take (l .end - at) (drop at s))) leastName → j ≡ column (fields (take (l .end - at) (drop at s))) mostName
+      → patternOf (fromNames (lines (drop at s)) (ended (drop at s) 10)) ≡ patternOf (fromValues (lines (drop (l .next) s)) i j (ended (drop (l .next) s) 10))
+  names-right h k i j ei ej = rw (closed-lines h, closed-ended h 10) (rw k (rw (ei, ej)))
 
 pub slots-count : (c : Columns) (t : List ℕ) (n : ℕ) → Right n ≡ slotLines c t → n ≡ length (lines t)
 unfolding slotLines

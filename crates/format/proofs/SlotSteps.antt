@@ -7,10 +7,11 @@ use lib.ListN.{length, getD, take, drop, set, replicate, List·getD-map, length-
 use lib.Seq.{drop-length, set-at, set-out, take-nil}
 use Rattle.pattern.specs.Patterns.{emptySlot, padded}
 use Rattle.pattern.specs.declared.slot.Slot.{Slot}
-use Rattle.format.specs.Bytes.{cut, decimal, lines, parts, value}
+use Rattle.format.specs.Bytes.{decimal, lines, parts, value}
 use Rattle.format.specs.Patterns.{firstSlots, madeSlot, readSlot}
 use Rattle.format.specs.declared.names.Columns.{Columns}
-use Rattle.format.proofs.LineSteps.{closed-lines, open-lines}
+use Rattle.format.specs.declared.reader.Line.{Line}
+use Rattle.format.proofs.LineSteps.{Closed, Open, closed-lines, open-lines}
 
 -- the slots that the lines from a place on show
 abbrev pub slotsFrom : Columns → List ℕ → ℕ → List Slot
@@ -20,12 +21,12 @@ pub slots-end : (c : Columns) (s : List ℕ) → slotsFrom c s (length s) ≡ []
 unfolding lines
 slots-end c s = rw (drop-length s)
 
-module _ (c : Columns) (s : List ℕ) (at e : ℕ) (is : e ≡ at + cut (drop at s) 10) where
-  pub slots-next : e < length s → slotsFrom c s at ≡ madeSlot (readSlot c (take (e - at) (drop at s))) ∷ slotsFrom c s (e + 1)
-  slots-next h = rw (closed-lines s at e is h)
+module _ (c : Columns) {s : List ℕ} {at : ℕ} {l : Line} where
+  pub slots-next : Closed s at l → slotsFrom c s at ≡ madeSlot (readSlot c (take (l .end - at) (drop at s))) ∷ slotsFrom c s (l .next)
+  slots-next h = rw (closed-lines h)
 
-  pub slots-open : e ≡ length s → slotsFrom c s at ≡ []
-  slots-open h = rw (open-lines s at e is h)
+  pub slots-open : Open s at l → slotsFrom c s at ≡ []
+  slots-open h = rw (open-lines h)
 
 -- ---- the array of sixteen slots
 

@@ -1,9 +1,9 @@
-use pattern::Pattern;
-use pattern::Refusal;
-use pattern::Verdict;
 use crate::patterns::read_pattern;
 use crate::texts::TextRead;
 use crate::texts::read_text;
+use pattern::Pattern;
+use pattern::Refusal;
+use pattern::Verdict;
 ghost use mathlib.Core.Path.{_≡_};
 ghost use lib.ListN.{length};
 ghost use Rattle.format.specs.Input.{refusedInput, inputRead, inputWritten};

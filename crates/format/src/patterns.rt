@@ -1,8 +1,3 @@
-use pattern::Pattern;
-use pattern::Refusal;
-use pattern::Slot;
-use pattern::Verdict;
-use crate::bytes::find;
 use crate::fields::column;
 use crate::fields::part;
 use crate::layout::Layout;
@@ -11,9 +6,14 @@ use crate::names::columns_of;
 use crate::names::slot_names;
 use crate::names::span_names;
 use crate::numbers::value;
+use crate::reader::line_at;
 use crate::values::slot_of;
 use crate::values::slot_values;
 use crate::values::span_values;
+use pattern::Pattern;
+use pattern::Refusal;
+use pattern::Slot;
+use pattern::Verdict;
 ghost use mathlib.Core.Path.{_≡_};
 ghost use mathlib.Core.List.{map};
 ghost use Prim.Native.Nat.{_≤_};
@@ -36,14 +36,15 @@ fn slot_lines(s: &[u8], from: usize, c: Columns) -> Layout
     let mut at = from;
     let mut n = 0;
     while at < s.len() {
-        let e = find(s, at, b'\n');
-        if e == s.len() {
+        let line = line_at(s, at);
+        let end = line.end;
+        if end == line.next {
             return Layout::Wrong(n);
         }
-        if !slot_values(&s[at..e], c) {
+        if !slot_values(&s[at..end], c) {
             return Layout::Wrong(n);
         }
-        at = e + 1;
+        at = line.next;
         n += 1;
     }
     Layout::Right(n)
@@ -62,12 +63,13 @@ fn slots_in(s: &[u8], from: usize, c: Columns) -> [Slot; 16]
         if Pattern::SLOTS <= k {
             return slots;
         }
-        let e = find(s, at, b'\n');
-        if e == s.len() {
+        let line = line_at(s, at);
+        let end = line.end;
+        if end == line.next {
             return slots;
         }
-        slots[k] = slot_of(&s[at..e], c);
-        at = e + 1;
+        slots[k] = slot_of(&s[at..end], c);
+        at = line.next;
         k += 1;
     }
     slots
@@ -116,16 +118,17 @@ fn from_slot_names(s: &[u8], from: usize, least: u16, most: u16) -> PatternRead
     requires { ⌜ from ≤ length (now s) ⌝ }
     ensures { λ r. ⌜ r ≡ patternOf (fromSlotNames (lines (drop from (now (s .entry)))) least most (ended (drop from (now (s .entry))) 10)) ⌝ }
 {
-    let e = find(s, from, b'\n');
-    if e == s.len() {
+    let line = line_at(s, from);
+    let end = line.end;
+    let next = line.next;
+    if end == next {
         return refuse(Refusal::Names(3));
     }
-    let line = &s[from..e];
-    if !slot_names(line) {
+    let names = &s[from..end];
+    if !slot_names(names) {
         return refuse(Refusal::Names(3));
     }
-    let c = columns_of(line);
-    let next = e + 1;
+    let c = columns_of(names);
     let found = slot_lines(s, next, c);
     match found {
         Layout::Wrong(k) => refuse(Refusal::Values(k + 4)),
@@ -138,17 +141,18 @@ fn from_values(s: &[u8], from: usize, i: usize, j: usize) -> PatternRead
     requires { ⌜ from ≤ length (now s) ⌝ }
     ensures { λ r. ⌜ r ≡ patternOf (fromValues (lines (drop from (now (s .entry)))) i j (ended (drop from (now (s .entry))) 10)) ⌝ }
 {
-    let e = find(s, from, b'\n');
-    if e == s.len() {
+    let line = line_at(s, from);
+    let end = line.end;
+    if end == line.next {
         return refuse(Refusal::Values(2));
     }
-    let line = &s[from..e];
-    if !span_values(line) {
+    let values = &s[from..end];
+    if !span_values(values) {
         return refuse(Refusal::Values(2));
     }
-    let least = value(part(line, b' ', i));
-    let most = value(part(line, b' ', j));
-    from_slot_names(s, e + 1, least, most)
+    let least = value(part(values, b' ', i));
+    let most = value(part(values, b' ', j));
+    from_slot_names(s, line.next, least, most)
 }
 
 // Reads a pattern.
@@ -159,15 +163,16 @@ pub fn read_pattern(bytes: &[u8]) -> PatternRead
     if crate::FILE < n {
         return refuse(Refusal::FileLength);
     }
-    let e = find(bytes, 0, b'\n');
-    if e == n {
+    let line = line_at(bytes, 0);
+    let end = line.end;
+    if end == line.next {
         return refuse(Refusal::Names(1));
     }
-    let line = &bytes[0..e];
-    if !span_names(line) {
+    let names = &bytes[0..end];
+    if !span_names(names) {
         return refuse(Refusal::Names(1));
     }
-    let i = column(line, b"least");
-    let j = column(line, b"most");
-    from_values(bytes, e + 1, i, j)
+    let i = column(names, b"least");
+    let j = column(names, b"most");
+    from_values(bytes, line.next, i, j)
 }

@@ -26,7 +26,10 @@ fn cut_line(s: &[u8], at: usize) -> Line
     if e == n {
         return Line { end: e, next: e };
     }
-    Line { end: e, next: e + 1 }
+    Line {
+        end: e,
+        next: e + 1,
+    }
 }
 
 // A reader of the bytes that has read so far.

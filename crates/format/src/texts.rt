@@ -1,9 +1,9 @@
-use pattern::Pattern;
-use pattern::Refusal;
-use crate::bytes::find;
 use crate::bytes::same;
 use crate::layout::Layout;
 use crate::numbers::decimal;
+use crate::reader::line_at;
+use pattern::Pattern;
+use pattern::Refusal;
 ghost use mathlib.Core.Path.{_≡_};
 ghost use mathlib.Core.List.{map};
 ghost use Prim.Native.Nat.{_≤_};
@@ -26,15 +26,16 @@ fn word_lines(s: &[u8]) -> Layout
     let mut at = 0;
     let mut n = 0;
     while at < s.len() {
-        let e = find(s, at, b'\n');
-        if e == s.len() {
+        let line = line_at(s, at);
+        let end = line.end;
+        if end == line.next {
             return Layout::Wrong(n);
         }
-        let v = decimal(&s[at..e]);
+        let v = decimal(&s[at..end]);
         if 65535 < v {
             return Layout::Wrong(n);
         }
-        at = e + 1;
+        at = line.next;
         n += 1;
     }
     Layout::Right(n)
@@ -48,10 +49,11 @@ fn write_words(s: &[u8], out: &mut [u16], m: usize)
     let mut at = 0;
     let mut n = 0;
     while at < s.len() {
-        let e = find(s, at, b'\n');
-        let v = decimal(&s[at..e]);
+        let line = line_at(s, at);
+        let end = line.end;
+        let v = decimal(&s[at..end]);
         out[n] = v as u16;
-        at = e + 1;
+        at = line.next;
         n += 1;
     }
 }
@@ -67,15 +69,16 @@ pub fn read_text(bytes: &[u8], words: &mut [u16]) -> TextRead
     if n == 0 {
         return TextRead::Words(0);
     }
-    let e = find(bytes, 0, b'\n');
-    if e == n {
+    let line = line_at(bytes, 0);
+    let end = line.end;
+    let next = line.next;
+    if end == next {
         return TextRead::Refused(Refusal::Names(1));
     }
-    if !same(&bytes[..e], b"word") {
+    if !same(&bytes[..end], b"word") {
         return TextRead::Refused(Refusal::Names(1));
     }
-    let start = e + 1;
-    let rest = &bytes[start..];
+    let rest = &bytes[next..];
     let found = word_lines(rest);
     match found {
         Layout::Wrong(k) => TextRead::Refused(Refusal::Values(k + 2)),

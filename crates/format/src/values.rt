@@ -1,10 +1,10 @@
-use pattern::Slot;
 use crate::fields::all_numbers;
 use crate::fields::count;
 use crate::fields::part;
 use crate::names::Columns;
 use crate::numbers::decimal;
 use crate::numbers::value;
+use pattern::Slot;
 ghost use mathlib.Core.Path.{_≡_};
 ghost use mathlib.Core.List.{map};
 ghost use Rattle.pattern.specs.Patterns.{padded};

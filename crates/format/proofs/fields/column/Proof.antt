@@ -1,4 +1,4 @@
--- `format::fields::column` meets its contract. The invariant: the name's place is k and its place among the parts from `at` on.
+-- `format::fields::column` meets its contract. The invariant: the name's column is k and its column among the fields from `at` on.
 use Prim.Native.Nat.{_+_, _-_, _≤_, _<_}
 use native.Mathlib.Omega.{arith}
 use mathlib.Core.Path.{_≡_, sym, _∙_}

@@ -1,3 +1,4 @@
+-- `format::input::read_input` meets its contract: each test, and what each reader ensures, tells the definition one step more.
 use mathlib.Core.Path.{_∙_}
 use Rattle.format.proofs.InputSteps.{both-read, pattern-long, pattern-refused, text-long, text-refused}
 use borrow.Author.Needs.{needs}

@@ -1,3 +1,4 @@
+-- `format::input::refuse` meets its contract: `Pattern::new` ensures the new pattern.
 use borrow.Author.Needs.{needs}
 use Rattle.format.proofs.input.refuse.Statement.{statement}
 use Rattle.format.proofs.input.refuse.Tie as tie

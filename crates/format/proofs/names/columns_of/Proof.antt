@@ -1,4 +1,4 @@
--- `format::names::columns_of` meets its contract.
+-- `format::names::columns_of` meets its contract: `column` ensures where each name stands.
 use borrow.Author.Needs.{needs}
 use Rattle.format.proofs.names.columns_of.Statement.{statement}
 use Rattle.format.proofs.names.columns_of.Tie as tie

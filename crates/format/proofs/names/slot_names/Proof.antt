@@ -1,4 +1,4 @@
--- `format::names::slot_names` meets its contract: `count` and `place` ensure what each test asks.
+-- `format::names::slot_names` meets its contract: `count` and `column` ensure what each test asks.
 use borrow.Author.Tests.{eq-eqb, le-ltb, lt-ltb, ne-eqb}
 use borrow.Author.Needs.{needs}
 use Rattle.format.proofs.names.slot_names.Statement.{statement}

@@ -1,4 +1,4 @@
--- `format::numbers::value` meets its contract.
+-- `format::numbers::value` meets its contract: the branch is the definition's test of the number that `decimal` ensures.
 use borrow.Author.Tests.{le-leb, lt-leb}
 use Rattle.format.specs.Bytes.{value}
 use borrow.Author.Needs.{needs}

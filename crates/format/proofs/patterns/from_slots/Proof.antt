@@ -1,3 +1,4 @@
+-- `format::patterns::from_slots` meets its contract: `judge` is handed the pattern that the lines show, with as many slots as there are lines.
 use mathlib.Core.Path.{sym, _∙_}
 use lib.ListN.{drop, length-map}
 use Rattle.format.specs.Bytes.{lines}

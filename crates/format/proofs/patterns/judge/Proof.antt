@@ -1,3 +1,4 @@
+-- `format::patterns::judge` meets its contract: the verdict that `check` ensures decides which pattern is given.
 use mathlib.Core.Path.{sym, _∙_}
 use borrow.Author.Needs.{needs}
 use Rattle.format.proofs.patterns.judge.Statement.{statement}

@@ -1,3 +1,4 @@
+-- `format::patterns::refuse` meets its contract: `Pattern::new` ensures the new pattern.
 use borrow.Author.Needs.{needs}
 use Rattle.format.proofs.patterns.refuse.Statement.{statement}
 use Rattle.format.proofs.patterns.refuse.Tie as tie

@@ -5,7 +5,7 @@ use mathlib.Core.Path.{_≡_, refl, sym, _∙_, ap}
 use lib.ListN.{length, drop}
 use borrow.Author.Tests.{not-false, not-true}
 use Rattle.format.specs.Patterns.{slotLines, slotValues}
-use Rattle.format.proofs.LineSteps.{scan-end, scan-next, scan-open, scan-wrong, scanned}
+use Rattle.format.proofs.LineSteps.{Closed, Lined, closed-line, lined, open-line, scan-end, scan-next, scan-open, scan-wrong, scanned}
 use borrow.Author.Needs.{needs}
 use Rattle.format.proofs.patterns.slot_lines.Statement.{statement}
 use Rattle.format.proofs.patterns.slot_lines.Tie as tie
@@ -16,29 +16,35 @@ Inv-loop s from c at₀ n₀ at n = (at ≤ length s) × ((n ≤ at) × (slotLin
 abbrev μ-loop : tie.MeasureT-loop
 μ-loop s from c at₀ n₀ at n = length s - at
 
+-- the line that a turn reads
+line : (c : tie.After-line-at Inv-loop μ-loop) → Lined (c .before .before .before .before .args .s .now) (c .before .before .loop .at) (c .line-at .result)
+line c = lined _ _ _ (c .line-at .ensures) (omega arith)
+
+shut : (c : tie.Else1 Inv-loop μ-loop) → Closed (c .before .before .before .before .before .before .args .s .now) (c .before .before .before .before .loop .at) (c .before .before .line-at .result)
+shut c = closed-line (line (c .before .before)) (c .if1 .left)
+
 loop-holds : tie.Need-loop-holds Inv-loop μ-loop
 unfolding slotLines
 loop-holds c = (search needs, (search needs, refl))
 
-find-requires : tie.Need-find-requires Inv-loop μ-loop
-find-requires c κs = search needs
+line-at-requires : tie.Need-line-at-requires Inv-loop μ-loop
+line-at-requires c κs = search needs
 
 returns : tie.Need-returns Inv-loop μ-loop
 returns c =
-    let f = c .before in
+    let f = c .before .before in
     let l = f .before .before .loop in
     let a = f .before .before .before .before .args in
-    let s = a .s .now in
-    (sym (l .inv .1 .1 ∙ scan-open s (l .at) (f .find .result) (f .find .ensures .0) (slotValues (a .c)) (l .n) (c .if1 .taken) (omega arith)), search needs)
+    (sym (l .inv .1 .1 ∙ scan-open (slotValues (a .c)) (l .n) (open-line (line f) (c .if1 .taken)) (omega arith)), search needs)
 
 sub-slot-values : tie.Need-sub-slot-values Inv-loop μ-loop
-sub-slot-values c = search needs
+sub-slot-values c = let k = shut c in omega arith
 
 part-slot-values-start : tie.Need-part-slot-values-start Inv-loop μ-loop
-part-slot-values-start c = search needs
+part-slot-values-start c = let k = shut c in omega arith
 
 part-slot-values-end : tie.Need-part-slot-values-end Inv-loop μ-loop
-part-slot-values-end c = search needs
+part-slot-values-end c = let k = shut c in omega arith
 
 slot-values-requires : tie.Need-slot-values-requires Inv-loop μ-loop
 slot-values-requires c κs = search needs
@@ -46,29 +52,25 @@ slot-values-requires c κs = search needs
 returns-2 : tie.Need-returns-2 Inv-loop μ-loop
 returns-2 c =
     let d = c .before in
-    let f = d .before .before .before in
-    let l = f .before .before .loop in
-    let a = f .before .before .before .before .args in
-    let s = a .s .now in
-    (sym (l .inv .1 .1 ∙ scan-wrong s (l .at) (f .find .result) (f .find .ensures .0) (slotValues (a .c)) (l .n) (omega arith) (sym (d .slot-values .ensures) ∙ not-true _ (c .if2 .taken))), search needs)
-
-add-at : tie.Need-add-at Inv-loop μ-loop
-add-at c = search needs
+    let q = d .before .before in
+    let l = q .before .before .before .before .loop in
+    let a = q .before .before .before .before .before .before .args in
+    (sym (l .inv .1 .1 ∙ scan-wrong (slotValues (a .c)) (l .n) (shut q) (sym (d .slot-values .ensures) ∙ not-true _ (c .if2 .taken))), search needs)
 
 add-n : tie.Need-add-n Inv-loop μ-loop
-add-n c = search needs
+add-n c = let k = shut (c .before .before .before) in omega arith
 
 loop-less : tie.Need-loop-less Inv-loop μ-loop
-loop-less c = search needs
+loop-less c = let k = shut (c .before .before .before) in omega arith
 
 loop-again : tie.Need-loop-again Inv-loop μ-loop
 loop-again c =
     let d = c .before in
-    let f = d .before .before .before in
-    let l = f .before .before .loop in
-    let a = f .before .before .before .before .args in
-    let s = a .s .now in
-    (search needs, (search needs, l .inv .1 .1 ∙ scan-next s (l .at) (f .find .result) (f .find .ensures .0) (slotValues (a .c)) (l .n) (omega arith) (sym (d .slot-values .ensures) ∙ not-false _ (c .if2 .left))))
+    let q = d .before .before in
+    let l = q .before .before .before .before .loop in
+    let a = q .before .before .before .before .before .before .args in
+    let h = shut q in
+    (omega arith, (omega arith, l .inv .1 .1 ∙ scan-next (slotValues (a .c)) (l .n) h (sym (d .slot-values .ensures) ∙ not-false _ (c .if2 .left))))
 
 returns-3 : tie.Need-returns-3 Inv-loop μ-loop
 returns-3 c =
@@ -85,14 +87,13 @@ slot-lines-spec =
     Inv-loop
     μ-loop
     loop-holds
-    find-requires
+    line-at-requires
     returns
     sub-slot-values
     part-slot-values-start
     part-slot-values-end
     slot-values-requires
     returns-2
-    add-at
     add-n
     loop-less
     loop-again

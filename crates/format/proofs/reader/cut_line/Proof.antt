@@ -1,3 +1,4 @@
+-- `format::reader::cut_line` meets its contract: `find` ensures the line's end, and the tests say whether it is closed.
 use native.Mathlib.Omega.{arith}
 use Rattle.format.proofs.LineSteps.{line-closed, line-open, line-past}
 use borrow.Author.Needs.{needs}

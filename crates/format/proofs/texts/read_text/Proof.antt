@@ -1,13 +1,11 @@
--- `format::texts::read_text` meets its contract: each test tells `text` one step more.
-use Prim.Native.Nat.{_<_}
+-- `format::texts::read_text` meets its contract: each test tells the definition one step more.
 use native.Mathlib.Omega.{arith}
 use mathlib.Core.List.{[]}
 use mathlib.Core.Path.{refl, sym, _∙_}
-use lib.ListN.{length}
 use lib.Seq.{length-take-le}
 use borrow.Author.Tests.{not-false, not-true}
 use Rattle.pattern.specs.declared.refusal.Refusal.the-variants.{Names}
-use Rattle.format.specs.Shown.{closed}
+use Rattle.format.proofs.LineSteps.{Lined, closed-line, lined, open-line}
 use Rattle.format.proofs.TextSteps.{Named, all-read, is-long, is-read, is-refused, is-wrong, over-many, text-name, text-none, text-open, too-short, wrong-few}
 use borrow.Author.Needs.{needs}
 use Rattle.format.proofs.texts.read_text.Statement.{statement}
@@ -17,15 +15,16 @@ use Rattle.format.proofs.texts.read_text.Tie as tie
 abbrev start : tie.Else4 → tie.Start
 start q = q .before .before .before .before .before .before .before .before .before .before
 
-named : (q : tie.Else4) → Named (q .before .before .before .before .before .before .before .before .before .before .args .bytes .now) (q .before .before .before .before .before .find .result)
+line : (c : tie.After-line-at) → Lined (c .before .before .before .before .before .args .bytes .now) 0 (c .line-at .result)
+line c = lined _ _ _ (c .line-at .ensures) (omega arith)
+
+named : (q : tie.Else4) → Named (q .before .before .before .before .before .before .before .before .before .before .args .bytes .now) (q .before .before .before .before .before .line-at .result)
 named q =
     let f = q .before .before .before .before .before in
-    let i : f .find .result < length (f .before .before .before .before .before .args .bytes .now) = omega arith in
     record {
       small = f .before .before .if1 .left;
       some = omega arith;
-      is = f .find .ensures .0;
-      closed = i;
+      line = closed-line (line f) (q .before .before .before .before .if3 .left);
       name = sym (q .before .same .ensures) ∙ not-false _ (q .if4 .left);
     }
 
@@ -41,21 +40,21 @@ returns-2 c =
     let d = is-read (a .bytes .now) (a .words .now) (c .before .if1 .left) [] 0 (text-none (a .bytes .now) (c .if2 .taken)) refl (omega arith) (omega arith) in
     (d .answer, d .content)
 
-find-requires : tie.Need-find-requires
-find-requires c κs = search needs
+line-at-requires : tie.Need-line-at-requires
+line-at-requires c κs = search needs
 
 returns-3 : tie.Need-returns-3
 returns-3 c =
     let f = c .before in
     let a = f .before .before .before .before .before .args in
     let s = a .bytes .now in
-    let d = is-refused s (a .words .now) (f .before .before .if1 .left) (Names 1) (text-open s (f .find .result) (f .find .ensures .0) (omega arith) (c .if3 .taken)) in
+    let d = is-refused s (a .words .now) (f .before .before .if1 .left) (Names 1) (text-open (omega arith) (open-line (line f) (c .if3 .taken))) in
     (d .answer, d .content)
 
 slice-aggregate-same : tie.Need-slice-aggregate-same
 slice-aggregate-same c =
     let f = c .before .before in
-    sym (length-take-le (f .find .result) (f .before .before .before .before .before .args .bytes .now) (f .find .ensures .1))
+    sym (length-take-le (f .line-at .result .end) (f .before .before .before .before .before .args .bytes .now) (line f .within))
 
 slice-aggregate-same-2 : tie.Need-slice-aggregate-same-2
 slice-aggregate-same-2 c = search needs
@@ -69,20 +68,17 @@ returns-4 c =
     let f = n .before .before .before .before in
     let a = f .before .before .before .before .before .args in
     let s = a .bytes .now in
-    let d = is-refused s (a .words .now) (f .before .before .if1 .left) (Names 1) (text-name s (f .find .result) (f .find .ensures .0) (omega arith) (omega arith) (sym (n .same .ensures) ∙ not-true _ (c .if4 .taken))) in
+    let d = is-refused s (a .words .now) (f .before .before .if1 .left) (Names 1) (text-name (omega arith) (closed-line (line f) (n .before .before .before .if3 .left)) (sym (n .same .ensures) ∙ not-true _ (c .if4 .taken))) in
     (d .answer, d .content)
 
-add-start : tie.Need-add-start
-add-start c = search needs
-
 sub-rest : tie.Need-sub-rest
-sub-rest c = search needs
+sub-rest c = let k = named c .line in omega arith
 
 part-rest-start : tie.Need-part-rest-start
-part-rest-start c = search needs
+part-rest-start c = let k = named c .line in omega arith
 
 part-rest-end : tie.Need-part-rest-end
-part-rest-end c = search needs
+part-rest-end c = let k = named c .line in omega arith
 
 word-lines-requires : tie.Need-word-lines-requires
 word-lines-requires c κs = search needs
@@ -90,8 +86,8 @@ word-lines-requires c κs = search needs
 enum-known-found : tie.Need-enum-known-found
 enum-known-found c = search needs
 
-add-t24 : tie.Need-add-t24
-add-t24 c =
+add-t25 : tie.Need-add-t25
+add-t25 c =
     let l = c .before .before .before in
     let b = wrong-few (named (l .before .before)) (c .before .found .given .0 .0) (l .word-lines .result) (l .word-lines .ensures .1) (c .before .found .given .1) in
     omega (arith, b)
@@ -145,19 +141,18 @@ read-text-spec =
     (tie.spec
     returns
     returns-2
-    find-requires
+    line-at-requires
     returns-3
     slice-aggregate-same
     slice-aggregate-same-2
     same-requires
     returns-4
-    add-start
     sub-rest
     part-rest-start
     part-rest-end
     word-lines-requires
     enum-known-found
-    add-t24
+    add-t25
     enum-known-found-2
     returns-5
     returns-6

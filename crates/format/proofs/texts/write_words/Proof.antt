@@ -9,7 +9,7 @@ use borrow.Author.Tests.{leb-true}
 use Rattle.format.specs.Bytes.{isNumber}
 use Rattle.format.specs.Texts.{wordLines}
 use Rattle.format.specs.declared.layout.Layout.the-variants.{Right}
-use Rattle.format.proofs.LineSteps.{Stepped, left, pasted-all, pasted-more, scanned, stepped, values, values-end, values-next}
+use Rattle.format.proofs.LineSteps.{Lined, Stepped, left, lined, pasted-all, pasted-more, scanned, stepped, values, values-end, values-next}
 use borrow.Author.Needs.{needs}
 use Rattle.format.proofs.texts.write_words.Statement.{statement}
 use Rattle.format.proofs.texts.write_words.Tie as tie
@@ -21,28 +21,31 @@ abbrev μ-loop : tie.MeasureT-loop
 μ-loop s out₀ m at₀ n₀ out at n = length s - at
 
 -- the line that a turn reads
-here : (c : tie.After-decimal Inv-loop μ-loop) → Stepped isNumber (c .before .before .before .before .before .before .before .args .s .now) (c .before .before .before .before .loop .at) (c .before .before .find .result) (c .before .before .before .before .loop .n) (c .before .before .before .before .before .before .before .args .m)
+line : (c : tie.After-line-at Inv-loop μ-loop) → Lined (c .before .before .before .before .before .args .s .now) (c .before .before .loop .at) (c .line-at .result)
+line c = lined _ _ _ (c .line-at .ensures) (omega arith)
+
+here : (c : tie.After-decimal Inv-loop μ-loop) → Stepped isNumber (c .before .before .before .before .before .before .before .args .s .now) (c .before .before .before .before .loop .at) (c .before .before .line-at .result) (c .before .before .before .before .loop .n) (c .before .before .before .before .before .before .before .args .m)
 here c =
     let f = c .before .before in
     let l = f .before .before .loop in
     let a = f .before .before .before .before .before .args in
-    stepped (a .s .now) (l .at) (f .find .result) (f .find .ensures .0) (f .find .ensures .1) (omega arith) isNumber (l .n) (a .m) (l .inv .1 .1 .1 .0)
+    stepped (line f) (omega arith) isNumber (l .n) (a .m) (l .inv .1 .1 .1 .0)
 
 loop-holds : tie.Need-loop-holds Inv-loop μ-loop
 unfolding wordLines
 loop-holds c = (search needs, (search needs, (refl, (c .before .before .pre .0, (search needs, (refl, refl))))))
 
-find-requires : tie.Need-find-requires Inv-loop μ-loop
-find-requires c κs = search needs
+line-at-requires : tie.Need-line-at-requires Inv-loop μ-loop
+line-at-requires c κs = search needs
 
 sub-decimal : tie.Need-sub-decimal Inv-loop μ-loop
-sub-decimal c = search needs
+sub-decimal c = let k = line c in omega arith
 
 part-decimal-start : tie.Need-part-decimal-start Inv-loop μ-loop
-part-decimal-start c = search needs
+part-decimal-start c = let k = line c in omega arith
 
 part-decimal-end : tie.Need-part-decimal-end Inv-loop μ-loop
-part-decimal-end c = search needs
+part-decimal-end c = let k = line c in omega arith
 
 decimal-requires : tie.Need-decimal-requires Inv-loop μ-loop
 decimal-requires c κs = search needs
@@ -63,11 +66,6 @@ slice-write-out c =
     let t = here c in
     omega arith
 
-add-at : tie.Need-add-at Inv-loop μ-loop
-add-at c =
-    let t = here c in
-    omega arith
-
 add-n : tie.Need-add-n Inv-loop μ-loop
 add-n c =
     let t = here c in
@@ -85,7 +83,7 @@ loop-again c =
     let l = f .before .before .loop in
     let a = f .before .before .before .before .before .args in
     let s = a .s .now in
-    let q = left (values s 0) (values s (f .find .result + 1)) (l .n) (c .decimal .result) (l .inv .1 .1 .1 .1 .1 .0 ∙ values-next s (l .at) (f .find .result) (c .decimal .result) (f .find .ensures .0) (t .closed) (c .decimal .ensures)) in
+    let q = left (values s 0) (values s (f .line-at .result .next)) (l .n) (c .decimal .result) (l .inv .1 .1 .1 .1 .1 .0 ∙ values-next (t .line) (c .decimal .result) (c .decimal .ensures)) in
     let w : set (l .out) (l .n) (c .decimal .result) ≡ paste (a .out .now) 0 (values s 0) (l .n + 1) =
     ap (λ (o : List ℕ). set o (l .n) (c .decimal .result)) (l .inv .1 .1 .1 .1 .1 .1) ∙ pasted-more (a .out .now) (values s 0) (l .n) (c .decimal .result) (omega arith) (q .inside) (q .this) in
     (omega arith, (omega arith, (simp length-set (l .inv .1 .1 .0), (t .rest, (omega arith, (q .others, w))))))
@@ -110,7 +108,7 @@ write-words-spec =
     Inv-loop
     μ-loop
     loop-holds
-    find-requires
+    line-at-requires
     sub-decimal
     part-decimal-start
     part-decimal-end
@@ -118,7 +116,6 @@ write-words-spec =
     cast-out
     mul-out
     slice-write-out
-    add-at
     add-n
     loop-less
     loop-again

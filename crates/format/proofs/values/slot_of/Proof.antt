@@ -1,3 +1,4 @@
+-- `format::values::slot_of` meets its contract: each part of the slot is what its callee ensures.
 use Prim.Native.Nat.{ℕ}
 use mathlib.Core.List.{List, map}
 use mathlib.Core.Path.{sym, _∙_, ap}

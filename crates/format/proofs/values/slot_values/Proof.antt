@@ -1,4 +1,4 @@
--- `format::values::slot_values` meets its contract.
+-- `format::values::slot_values` meets its contract: `count`, `decimal` and `all_numbers` ensure what each test asks.
 use Prim.Native.Nat.{ℕ}
 use mathlib.Core.List.{List}
 use mathlib.Core.Path.{_∙_, ap}

@@ -1,4 +1,4 @@
--- `format::values::span_values` meets its contract.
+-- `format::values::span_values` meets its contract: `count` and `decimal` ensure what each test asks.
 use mathlib.Core.Path.{_∙_, ap}
 use borrow.Author.Tests.{eq-eqb, le-leb, lt-leb, ne-eqb}
 use Rattle.format.specs.Bytes.{decimal}
