@@ -7,3 +7,4 @@ pub mod Orders
 pub mod PatternPrinted
 pub mod PatternShown
 pub mod Reading
+pub mod Examples

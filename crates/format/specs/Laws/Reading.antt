@@ -12,16 +12,18 @@ use Rattle.pattern.specs.Laws.Accepting.{pattern-accepted}
 use Rattle.pattern.specs.Tests.{patternVerdict, pick}
 use Rattle.pattern.specs.declared.Pattern.{Pattern}
 use Rattle.pattern.specs.declared.refusal.Refusal.{Refusal}
-use Rattle.pattern.specs.declared.refusal.Refusal.the-variants.{FileLength}
+use Rattle.pattern.specs.declared.refusal.Refusal.the-variants.{TextLength, FileLength, WordListLength}
 use Rattle.pattern.specs.declared.refusal.Verdict.{Verdict}
 use Rattle.pattern.specs.declared.refusal.Verdict.the-variants.{Refused}
 use Rattle.pattern.specs.declared.refusal.Verdict.the-variants.{Accepted as Fine}
 use Rattle.pattern.specs.Accepted.{Accepted}
-use Rattle.format.specs.Texts.{over, textRead, textWritten}
+use Rattle.format.specs.Texts.{TextContents, over, textAnswer, textContents, textRead, textWritten, words}
+use Rattle.format.specs.Texts.{refused as noWords}
 use Rattle.format.specs.Patterns.{PatternContents, SlotLine, judgedBy, patternContents, patternOf, patternRead, refused, refusedPattern, shown, shownPattern}
 use Rattle.format.specs.Shown.{PatternShows, TextShows}
 use Rattle.format.specs.declared.patterns.PatternRead.{PatternRead}
 use Rattle.format.specs.declared.texts.TextRead.the-variants.{Words}
+use Rattle.format.specs.declared.texts.TextRead.the-variants.{Refused as NoText}
 use Rattle.format.specs.Laws.PatternShown.{pattern-shown}
 use Rattle.format.specs.Laws.TextShown.{text-shown}
 
@@ -89,18 +91,63 @@ pattern-read s f = (read-shows s f, shows-read s f)
 
 -- ---- texts
 
--- the file shows so many words, within the limit and the room
-pub record ShowsText (s : List ℕ) (room : ℕ) (ws : List ℕ) : Type 0 where
+-- the file shows n words, within the limit and the room
+pub record ShowsText (s : List ℕ) (room n : ℕ) : Type 0 where
   pub short : length s ≤ 60000
-  pub shows : TextShows s ws
-  pub few : length ws ≤ 20000
-  pub fits : length ws ≤ room
+  pub contents : List ℕ
+  pub shows : TextShows s contents
+  pub count : length contents ≡ n
+  pub few : n ≤ 20000
+  pub fits : n ≤ room
 
--- then its words are written at the list's start
-pub text-written : (s out ws : List ℕ) → ShowsText s (length out) ws → (textRead s (length out) ≡ Words (length ws)) × (textWritten s out ≡ over out ws)
-unfolding textRead textWritten
-text-written s out ws r =
-    let c = text-shown s ws .1 (r .shows) in (
-      rw (le-ltb 60000 (length s) (r .short), c) (rw (le-ltb 20000 (length ws) (r .few), le-ltb (length out) (length ws) (r .fits))),
-      rw (le-ltb 60000 (length s) (r .short), c) (rw (le-ltb 20000 (length ws) (r .few), le-ltb (length out) (length ws) (r .fits))),
-    )
+not-read : {why : Refusal} {n : ℕ} → NoText why ≡ Words n → ⊥
+not-read e = let z : _≡_ {A = ℕ} 0 1 = cc in omega arith
+
+counted : {m n : ℕ} → Words m ≡ Words n → m ≡ n
+counted e = cc
+
+words-shown : (s : List ℕ) (room n : ℕ) → length s ≤ 60000 → (c : TextContents) → textContents s ≡ c → textAnswer c room ≡ Words n → ShowsText s room n
+words-shown s room n h (noWords why) e q = absurd (not-read q)
+words-shown s room n h (words ws) e q = go (ltb 20000 (length ws)) refl (ltb room (length ws)) refl q
+  where
+    go : (x : Bool) → ltb 20000 (length ws) ≡ x → (y : Bool) → ltb room (length ws) ≡ y → pick x (NoText TextLength) (pick y (NoText WordListLength) (Words (length ws))) ≡ Words n → ShowsText s room n
+    go true a y b k = absurd (not-read k)
+    go false a true b k = absurd (not-read k)
+    go false a false b k =
+        let m : length ws ≡ n = counted k in
+        record {
+          short = h;
+          contents = ws;
+          shows = text-shown s ws .0 e;
+          count = m;
+          few = omega (arith, ltb-false 20000 (length ws) a);
+          fits = omega (arith, ltb-false room (length ws) b);
+        }
+
+read-words : (s : List ℕ) (room n : ℕ) → textRead s room ≡ Words n → ShowsText s room n
+unfolding textRead
+read-words s room n e = go (ltb 60000 (length s)) refl e
+  where
+    go : (x : Bool) → ltb 60000 (length s) ≡ x → pick x (NoText FileLength) (textAnswer (textContents s) room) ≡ Words n → ShowsText s room n
+    go true t q = absurd (not-read q)
+    go false t q = words-shown s room n (ltb-false 60000 (length s) t) (textContents s) refl q
+
+module _ {s : List ℕ} {room n : ℕ} (r : ShowsText s room n) where
+  few-words : ltb 20000 (length (r .contents)) ≡ false
+  few-words = le-ltb 20000 (length (r .contents)) (omega (arith, r .count, r .few))
+
+  words-fit : ltb room (length (r .contents)) ≡ false
+  words-fit = le-ltb room (length (r .contents)) (omega (arith, r .count, r .fits))
+
+  words-read : textRead s room ≡ Words n
+  unfolding textRead
+  words-read = rw (le-ltb 60000 (length s) (r .short), text-shown s (r .contents) .1 (r .shows)) (rw (few-words, words-fit) (ap Words (r .count)))
+
+-- a file is read as n words exactly if it shows n words, within the limit and the room
+pub text-read : (s : List ℕ) (room n : ℕ) → (textRead s room ≡ Words n) ↔ ShowsText s room n
+text-read s room n = (read-words s room n, λ r. words-read r)
+
+-- and then these words are written at the list's start
+pub text-written : (s out : List ℕ) (n : ℕ) → (r : ShowsText s (length out) n) → textWritten s out ≡ over out (r .contents)
+unfolding textWritten
+text-written s out n r = rw (le-ltb 60000 (length s) (r .short), text-shown s (r .contents) .1 (r .shows)) (rw (few-words r, words-fit r))
