@@ -52,7 +52,7 @@ parts-none (b ∷ t) sep h = go (eqb b sep) h (parts-none t sep)
 
 -- at a place of s, with e the place of the next `sep` or the end
 module _ (s : List ℕ) (at e sep : ℕ) (is : e ≡ at + cut (drop at s) sep) where
-  pub parts-more : e < length s → parts (drop at s) sep ≡ take (e - at) (drop at s) ∷ parts (drop (e + 1) s) sep
+  parts-more : e < length s → parts (drop at s) sep ≡ take (e - at) (drop at s) ∷ parts (drop (e + 1) s) sep
   parts-more h =
       let k : cut (drop at s) sep ≡ e - at = omega arith in
       let l : cut (drop at s) sep < length (drop at s) = omega (arith, length-drop at s) in
@@ -60,7 +60,7 @@ module _ (s : List ℕ) (at e sep : ℕ) (is : e ≡ at + cut (drop at s) sep) w
       parts-cut (drop at s) sep l ∙ ap (λ (n : ℕ). take n (drop at s) ∷ parts (drop (suc (cut (drop at s) sep)) (drop at s)) sep) k
       ∙ ap (λ (t : List ℕ). take (e - at) (drop at s) ∷ parts t sep) (drop-drop (suc (cut (drop at s) sep)) at s ∙ ap (λ (n : ℕ). drop n s) j)
 
-  pub parts-last : e ≡ length s → parts (drop at s) sep ≡ take (e - at) (drop at s) ∷ []
+  parts-last : e ≡ length s → parts (drop at s) sep ≡ take (e - at) (drop at s) ∷ []
   parts-last h =
       parts-none (drop at s) sep (omega (arith, length-drop at s)) ∙ ap (λ (t : List ℕ). t ∷ []) (sym (take-all (e - at) (drop at s) (omega (arith, length-drop at s))))
 

@@ -73,13 +73,13 @@ module _ (s out : List ℕ) where
     is-refused why t = record { answer = simp (le-ltb _ _ h, t); content = simp (le-ltb _ _ h, t) }
 
     module _ (ws : List ℕ) (k : ℕ) (t : textContents s ≡ words ws) (long : length ws ≡ k) where
-      pub is-over : 20000 < k → Done s out (Refused TextLength) out
+      is-over : 20000 < k → Done s out (Refused TextLength) out
       unfolding textRead textWritten
       is-over g =
           let g' : 20000 < length ws = omega arith in
           record { answer = simp (le-ltb _ _ h, t, lt-ltb _ _ g'); content = simp (le-ltb _ _ h, t, lt-ltb _ _ g') }
 
-      pub is-short : k ≤ 20000 → length out < k → Done s out (Refused WordListLength) out
+      is-short : k ≤ 20000 → length out < k → Done s out (Refused WordListLength) out
       unfolding textRead textWritten
       is-short g r =
           let g' : length ws ≤ 20000 = omega arith in

@@ -1,5 +1,5 @@
 -- Bytes, cut at a byte: the lines of a file, the fields of a line, the numbers between commas; a number in base ten.
-use Prim.Native.Nat.{ℕ, zero, suc, _+_, _-_, _*_}
+use Prim.Native.Nat.{ℕ, suc, _+_, _-_, _*_}
 use mathlib.Core.List.{List, [], _∷_}
 use mathlib.Core.Bool.{Bool, true, false}
 use lib.ListN.{length, getD}

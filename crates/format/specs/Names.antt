@@ -1,7 +1,7 @@
 -- The names that stand on a line, in any order.
 use Prim.Native.Nat.{ℕ, suc}
 use mathlib.Core.List.{List, [], _∷_}
-use mathlib.Core.Bool.{Bool, true, false}
+use mathlib.Core.Bool.{Bool, false}
 use lib.ListN.{length}
 use lib.Dec.{ltb, eqb}
 use Rattle.pattern.specs.Tests.{pick}

@@ -12,7 +12,7 @@ use Rattle.format.specs.Bytes.{decimal, more}
 use Rattle.format.specs.Shown.{digits, digitsIn}
 
 -- one digit after a number
-pub more-snoc : (s : List ℕ) (v w b : ℕ) → more s v ≡ w → w ≤ 65535 → 48 ≤ b → b ≤ 57 → w * 10 + (b - 48) ≤ 65535 → more (s ++ (b ∷ [])) v ≡ w * 10 + (b - 48)
+more-snoc : (s : List ℕ) (v w b : ℕ) → more s v ≡ w → w ≤ 65535 → 48 ≤ b → b ≤ 57 → w * 10 + (b - 48) ≤ 65535 → more (s ++ (b ∷ [])) v ≡ w * 10 + (b - 48)
 unfolding more
 more-snoc [] v w b e h l g m = rw e (simp (le-ltb _ _ l, le-ltb _ _ g, le-ltb _ _ m))
 more-snoc (x ∷ s) v w b e h l g m = go (ltb x 48) (ltb 57 x) (ltb 65535 (v * 10 + (x - 48))) e (more-snoc s (v * 10 + (x - 48)) w b)
@@ -75,10 +75,6 @@ pub decimal-digits : (n : ℕ) → n ≤ 65535 → decimal (digits n) ≡ n
 unfolding digits decimal digitsIn
 decimal-digits zero h = refl
 decimal-digits (suc n) h = lead-decimal (lead-digits 4 (suc n) (omega arith) (omega arith)) ∙ more-digits 4 (suc n) (omega arith) h
-
--- two numbers that look the same are
-pub digits-once : (m n : ℕ) → m ≤ 65535 → n ≤ 65535 → digits m ≡ digits n → m ≡ n
-digits-once m n h k e = sym (decimal-digits m h) ∙ ap decimal e ∙ decimal-digits n k
 
 -- more room changes no digit
 digits-room : (f n : ℕ) → n < ten f → digitsIn f n ≡ digitsIn (suc f) n

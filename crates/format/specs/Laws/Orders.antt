@@ -4,7 +4,6 @@ use native.Mathlib.Omega.{arith}
 use mathlib.Core.List.{List, [], _∷_}
 use mathlib.Core.Path.{_≡_, refl, sym, subst}
 use lib.ListN.{length, getD}
-use Rattle.format.specs.Texts.{words}
 use Rattle.format.specs.Shown.{Order2, Order3, hlw, hwl, lhw, lm, lwh, ml, three, two, whl, wlh}
 use Rattle.format.specs.declared.names.Columns.{Columns}
 
@@ -73,7 +72,7 @@ order-two (suc zero) (suc zero) h k z = absurd (z refl)
 order-two (suc zero) (suc (suc j)) h k z = absurd (omega arith)
 order-two (suc (suc i)) j h k z = absurd (omega arith)
 
-pub third : (i j k a : ℕ) → k ≡ a → Order3 i j a → Order3 i j k
+third : (i j k a : ℕ) → k ≡ a → Order3 i j a → Order3 i j k
 third i j k a e o = subst (Order3 i j) (sym e) o
 
 pub order-three : (i j k : ℕ) → i < 3 → j < 3 → k < 3 → (i ≡ j → ⊥) → (i ≡ k → ⊥) → (j ≡ k → ⊥) → Order3 i j k

@@ -1,7 +1,7 @@
 -- A pattern file holds span limits and slots exactly if it shows them. Assumes nothing.
 use Prim.Native.Nat.{ℕ, _≤_, _<_}
 use native.Mathlib.Omega.{arith}
-use mathlib.Core.Bool.{Bool, true, false}
+use mathlib.Core.Bool.{Bool, true, false, false≢true}
 use mathlib.Core.List.{List, [], _∷_, map}
 use mathlib.Core.Logic.{_↔_}
 use mathlib.Core.Path.{_≡_, refl, sym, _∙_, ap, subst}
@@ -14,7 +14,6 @@ use Rattle.pattern.specs.declared.refusal.Refusal.the-variants.{Names, Values}
 use Rattle.format.specs.Bytes.{ended, field, fields, isNumber, lines, parts, value}
 use Rattle.format.specs.Layouts.{scan}
 use Rattle.format.specs.Names.{column, columnsOf, highName, leastName, lowName, mostName, slotNames, spanNames, wordsName}
-use Rattle.format.specs.Texts.{words}
 use Rattle.format.specs.Patterns.{SlotLine, fromNames, fromSlotNames, fromSlots, fromValues, patternContents, readSlot, refused, shown, slotValues, spanValues}
 use Rattle.format.specs.Shown.{Order2, Order3, PatternShows, SmallSlot, SmallSlots, also-slot, closed, digits, fileLines, joined, lm, ml, no-slot, showing, slotText, three, two}
 use Rattle.format.specs.declared.layout.Layout.{Layout}
@@ -22,13 +21,13 @@ use Rattle.format.specs.declared.layout.Layout.the-variants.{Right, Wron
 use Rattle.format.specs.declared.names.Columns.{Columns}
 use Rattle.format.specs.Laws.Fields.{column-is, joined-parts, number-shown, number-small, parts-some, words-shown}
 use Rattle.format.specs.Laws.Lines.{AllRight, closed-read, no-line, right-line, scan-all}
-use Rattle.format.specs.Laws.Orders.{order-three, order-two, third, three-of, two-of}
+use Rattle.format.specs.Laws.Orders.{order-three, order-two, three-of, two-of}
 use Rattle.format.specs.Laws.PatternPrinted.{shows-pattern}
 
 -- what each test tells of a line
 both : (x : Bool) {y : Bool} → pick x y false ≡ true → (x ≡ true) × (y ≡ true)
 both true e = (refl, e)
-both false e = absurd (let z : _≡_ {A = ℕ} 0 1 = cc in omega arith)
+both false e = absurd (false≢true e)
 
 -- two names in one column are the same
 apart : (fs : List (List ℕ)) (m n : List ℕ) → (m ≡ n → ⊥) → getD fs (column fs m) [] ≡ m → getD fs (column fs n) [] ≡ n → column fs m ≡ column fs n → ⊥

@@ -21,19 +21,19 @@ use Rattle.format.specs.Laws.Lines.{AllRight, all-digits, closed-read, e
 use Rattle.format.specs.Laws.Numbers.{decimal-digits, digits-decimal}
 
 -- lines of numbers
-pub numbers-right : {ws : List ℕ} → Small ws → AllRight isNumber (map digits ws)
+numbers-right : {ws : List ℕ} → Small ws → AllRight isNumber (map digits ws)
 numbers-right none = no-line
 numbers-right (also {n = n} h r) = right-line {l = digits n} (rw (decimal-digits n h) (le-leb n 65535 h)) (numbers-right r)
 
-pub numbers-read : {ws : List ℕ} → Small ws → map decimal (map digits ws) ≡ ws
+numbers-read : {ws : List ℕ} → Small ws → map decimal (map digits ws) ≡ ws
 numbers-read none = refl
 numbers-read (also {n = n} {ns = ns} h r) = rw (decimal-digits n h) (ap (λ (k : List ℕ). n ∷ k) (numbers-read r))
 
-pub numbers-small : {ls : List (List ℕ)} → AllRight isNumber ls → Small (map decimal ls)
+numbers-small : {ls : List (List ℕ)} → AllRight isNumber ls → Small (map decimal ls)
 numbers-small no-line = none
 numbers-small (right-line {l = l} h r) = also (leb-true (decimal l) 65535 h) (numbers-small r)
 
-pub numbers-shown : {ls : List (List ℕ)} → AllRight isNumber ls → ls ≡ map digits (map decimal ls)
+numbers-shown : {ls : List (List ℕ)} → AllRight isNumber ls → ls ≡ map digits (map decimal ls)
 numbers-shown no-line = refl
 numbers-shown (right-line {l = l} {ls = ls} h r) =
     ap (λ (k : List ℕ). k ∷ ls) (digits-decimal l (decimal l) refl (leb-true (decimal l) 65535 h)) ∙ ap (λ (k : List (List ℕ)). digits (decimal l) ∷ k) (numbers-shown r)
