@@ -1,0 +1,8 @@
+-- Laws that the proofs of several functions share: what one turn of a loop, or one test, tells.
+mod ByteSteps
+mod LineSteps
+mod PartSteps
+mod SlotSteps
+mod TextSteps
+mod InputSteps
+mod PatternSteps

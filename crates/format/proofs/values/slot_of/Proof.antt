@@ -1,0 +1,59 @@
+-- `format::values::slot_of` meets its contract: each part of the slot is what its callee ensures.
+use Prim.Native.Nat.{ℕ}
+use mathlib.Core.List.{List, map}
+use mathlib.Core.Path.{sym, _∙_, ap}
+use lib.ListN.{length, length-map}
+use Rattle.pattern.specs.Patterns.{padded}
+use Rattle.format.specs.Bytes.{field, parts, value}
+use borrow.Author.Needs.{needs}
+use Rattle.format.proofs.values.slot_of.Statement.{statement}
+use Rattle.format.proofs.values.slot_of.Tie as tie
+
+part-requires : tie.Need-part-requires
+part-requires c κs = search needs
+
+words-of-requires : tie.Need-words-of-requires
+words-of-requires c κs = search needs
+
+count-requires : tie.Need-count-requires
+count-requires c κs = search needs
+
+part-requires-2 : tie.Need-part-requires-2
+part-requires-2 c κs = search needs
+
+value-requires : tie.Need-value-requires
+value-requires c κs = search needs
+
+part-requires-3 : tie.Need-part-requires-3
+part-requires-3 c κs = search needs
+
+value-requires-2 : tie.Need-value-requires-2
+value-requires-2 c κs = search needs
+
+returns : tie.Need-returns
+returns c =
+    let high = c in
+    let low = high .before .before in
+    let number = low .before .before in
+    let list = number .before in
+    let w = list .before .part .ensures in
+    let a = list .before .before .before .args in
+    simp (
+      list .words-of .ensures ∙ ap (λ (l : List ℕ). padded (map value (parts l 44))) w,
+      number .count .ensures ∙ ap (λ (l : List ℕ). length (parts l 44)) w ∙ sym (length-map (parts (field (a .s .now) (a .c .words)) 44) value),
+      low .value .ensures ∙ ap value (low .before .part2 .ensures),
+      high .value2 .ensures ∙ ap value (high .before .part3 .ensures),
+    )
+
+pub slot-of-spec : {M : Type 1} → statement M
+slot-of-spec =
+    tie.close
+    (tie.spec
+    part-requires
+    words-of-requires
+    count-requires
+    part-requires-2
+    value-requires
+    part-requires-3
+    value-requires-2
+    returns)

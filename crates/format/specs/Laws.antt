@@ -1,0 +1,10 @@
+-- What follows from the definitions: above all that a file is read as contents exactly if it shows them.
+pub mod Numbers
+pub mod Lines
+pub mod TextShown
+pub mod Fields
+pub mod Orders
+pub mod PatternPrinted
+pub mod PatternShown
+pub mod Reading
+pub mod Examples

@@ -1,0 +1,103 @@
+-- A pattern file (document 01: frame sheet): the pattern it shows, or why it is refused.
+use Prim.Native.Nat.{ℕ, _+_, _-_}
+use mathlib.Core.List.{List, [], _∷_, _++_, map}
+use mathlib.Core.Bool.{Bool, false}
+use lib.ListN.{length, take, replicate}
+use lib.Dec.{ltb, eqb}
+use Rattle.pattern.specs.declared.slot.Slot.{Slot}
+use Rattle.pattern.specs.declared.Pattern.{Pattern}
+use Rattle.pattern.specs.declared.refusal.Refusal.{Refusal}
+use Rattle.pattern.specs.declared.refusal.Refusal.the-variants.{Names, Values, FileLength}
+use Rattle.pattern.specs.declared.refusal.Verdict.{Verdict}
+use Rattle.pattern.specs.declared.refusal.Verdict.the-variants.{Accepted, Refused}
+use Rattle.pattern.specs.Patterns.{emptySlot, emptyPattern, slotOf}
+use Rattle.pattern.specs.Tests.{pick, patternVerdict}
+use Rattle.format.specs.Bytes.{lines, ended, parts, fields, field, value, isNumber, allNumbers}
+use Rattle.format.specs.Layouts.{scan}
+use Rattle.format.specs.Names.{leastName, mostName, column, spanNames, slotNames, columnsOf}
+use Rattle.format.specs.declared.layout.Layout.{Layout}
+use Rattle.format.specs.declared.layout.Layout.the-variants.{Right, Wrong}
+use Rattle.format.specs.declared.names.Columns.{Columns}
+use Rattle.format.specs.declared.patterns.PatternRead.{PatternRead}
+
+-- ---- layout (10, 11)
+
+-- the line has two numbers
+abbrev pub spanValues : List ℕ → Bool
+spanValues l = pick (eqb (length (fields l)) 2) (pick (isNumber (field l 0)) (isNumber (field l 1)) false) false
+
+-- the line has two numbers and, between commas, one number or more
+unfoldable pub slotValues : Columns → List ℕ → Bool
+slotValues c l =
+    pick (eqb (length (fields l)) 3)
+    (pick (isNumber (field l (c .low)))
+    (pick (isNumber (field l (c .high))) (allNumbers (parts (field l (c .words)) 44)) false)
+    false)
+    false
+
+-- the lines of the slots
+unfoldable pub slotLines : Columns → List ℕ → Layout
+slotLines c s = scan (lines s) (slotValues c) (ended s 10) 0
+
+-- what a slot's line says
+pub record SlotLine : Type 0 where
+  pub low : ℕ
+  pub high : ℕ
+  pub words : List ℕ
+
+abbrev pub readSlot : Columns → List ℕ → SlotLine
+readSlot c l = record { low = value (field l (c .low)); high = value (field l (c .high)); words = map value (parts (field l (c .words)) 44) }
+
+-- what stands on a file's lines: the span limits and the slots, or why the layout is refused
+pub data PatternContents : Type 0 where
+  refused : Refusal → PatternContents
+  shown : ℕ → ℕ → List SlotLine → PatternContents
+
+abbrev pub fromSlots : Layout → Columns → ℕ → ℕ → List (List ℕ) → PatternContents
+fromSlots (Wrong n) c least most ls = refused (Values (n + 4))
+fromSlots (Right n) c least most ls = shown least most (map (readSlot c) ls)
+
+abbrev pub fromSlotNames : List (List ℕ) → ℕ → ℕ → Bool → PatternContents
+fromSlotNames [] least most closed = refused (Names 3)
+fromSlotNames (l ∷ ls) least most closed = pick (slotNames l) (fromSlots (scan ls (slotValues (columnsOf l)) closed 0) (columnsOf l) least most ls) (refused (Names 3))
+
+abbrev pub fromValues : List (List ℕ) → ℕ → ℕ → Bool → PatternContents
+fromValues [] i j closed = refused (Values 2)
+fromValues (l ∷ ls) i j closed = pick (spanValues l) (fromSlotNames ls (value (field l i)) (value (field l j)) closed) (refused (Values 2))
+
+abbrev pub fromNames : List (List ℕ) → Bool → PatternContents
+fromNames [] closed = refused (Names 1)
+fromNames (l ∷ ls) closed = pick (spanNames l) (fromValues ls (column (fields l) leastName) (column (fields l) mostName) closed) (refused (Names 1))
+
+unfoldable pub patternContents : List ℕ → PatternContents
+patternContents s = fromNames (lines s) (ended s 10)
+
+-- ---- the pattern of these span limits and slots: their count is stated, the first sixteen are stored, and unused entries are 0
+
+abbrev pub madeSlot : SlotLine → Slot
+madeSlot l = slotOf (l .low) (l .high) (l .words)
+
+abbrev pub firstSlots : List Slot → List Slot
+firstSlots ss = take 16 ss ++ replicate (16 - length ss) emptySlot
+
+abbrev pub shownPattern : ℕ → ℕ → List SlotLine → Pattern
+shownPattern least most ls = record { slots = firstSlots (map madeSlot ls); count = length ls; least = least; most = most }
+
+-- ---- the answer: 12, layout, then the tests 1 to 5; a new pattern beside a refusal
+
+abbrev pub refusedPattern : Refusal → PatternRead
+refusedPattern why = record { verdict = Refused why; pattern = emptyPattern }
+
+abbrev pub judgedBy : Verdict → Pattern → PatternRead
+judgedBy Accepted f = record { verdict = Accepted; pattern = f }
+judgedBy (Refused why) f = refusedPattern why
+
+abbrev pub judged : Pattern → PatternRead
+judged f = judgedBy (patternVerdict f) f
+
+abbrev pub patternOf : PatternContents → PatternRead
+patternOf (refused why) = refusedPattern why
+patternOf (shown least most ls) = judged (shownPattern least most ls)
+
+unfoldable pub patternRead : List ℕ → PatternRead
+patternRead s = pick (ltb 60000 (length s)) (refusedPattern FileLength) (patternOf (patternContents s))
