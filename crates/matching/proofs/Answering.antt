@@ -1,51 +1,25 @@
 -- The searches' answers as equations, from either end. Assumes nothing.
-use Prim.Native.Nat.{ℕ, zero, suc, _+_, _-_, _≤_, _<_}
+use Prim.Native.Nat.{ℕ, _+_, _-_, _≤_, _<_}
 use native.Mathlib.Omega.{arith}
 use native.Mathlib.Decide.{decLt}
-use mathlib.Core.List.{List, [], _∷_, _++_, reverse}
-use mathlib.Core.Bool.{Bool, true, false, not, true≢false, false≢true}
+use mathlib.Core.List.{List, reverse}
+use mathlib.Core.Bool.{Bool, true, false, true≢false}
 use mathlib.Core.Option.{Option, none, some}
 use mathlib.Core.Path.{_≡_, refl, sym, ap, _∙_}
-use lib.ListN.{length, getD, take, replicate, length-append, length-replicate, List·getD-append}
+use lib.ListN.{length, take, replicate, length-append, length-replicate, List·getD-append}
 use lib.Seq.{getD-take, length-take-le, ext-getD, getD-append-add}
-use lib.Dec.{eqb}
-use borrow.Author.Tests.{eqb-true, not-false}
 use Rattle.pattern.specs.declared.Pattern.{Pattern}
-use Rattle.pattern.specs.declared.refusal.Refusal.the-variants.{RowLength}
-use Rattle.pattern.specs.declared.refusal.Verdict.the-variants.{Accepted}
-use Rattle.pattern.specs.Tests.{inputVerdict, refuse}
-use Rattle.pattern.specs.Laws.Accepting.{input-accepted, then-accepted, refuse-accepted}
 use Rattle.pattern.specs.Laws.Arrays.{zeros-at, at-past}
 use Rattle.matching.specs.declared.search.Answer.{Answer}
-use Rattle.matching.specs.Occurrence.{Occurs, at}
-use Rattle.matching.specs.Rows.{Before, NotAfter}
+use Rattle.matching.specs.Occurrence.{at}
 use Rattle.matching.specs.Searches.{earliest, latest}
-use Rattle.matching.specs.Answers.{rowVerdict, sixteen, searched, shownAnswer}
+use Rattle.matching.specs.Answers.{sixteen, searched, shownAnswer}
 use Rattle.matching.specs.Steps.Settling.{Ready, Reported, Answered, AnsweredBack, Copied}
 use Rattle.matching.specs.Steps.Turning.{flip, Turned, Flipped}
-use Rattle.matching.specs.Laws.Extremes.{Earliest, Latest, earliest-some, earliest-none, latest-some, latest-none, earliest-same, latest-same}
+use Rattle.matching.specs.Laws.Extremes.{earliest-some, earliest-none, latest-some, latest-none, earliest-same, latest-same}
 use Rattle.matching.specs.Laws.Mirror.{length-flip, Opposite, flip-opposite, nearest-back, none-back}
 use Rattle.matching.specs.Laws.Turning.{turned-facing}
-
--- ---- what the tests leave
-
-pub ready : (f : Pattern) (t : List ℕ) → inputVerdict f (length t) ≡ Accepted → Ready f t
-ready f t e =
-    let a = input-accepted f (length t) .0 e in
-    record { some = a .pattern .some; few = a .pattern .few; least = a .pattern .least; short = a .short }
-
-pub record RowAccepted (f : Pattern) (t row : List ℕ) : Type 0 where
-  pub ready : Ready f t
-  pub size : length row ≡ f .count
-
-pub row-accepted : {f : Pattern} {t row : List ℕ} → rowVerdict f t row ≡ Accepted → RowAccepted f t row
-unfolding rowVerdict
-row-accepted {f} {t} {row} e =
-    let b = then-accepted (inputVerdict f (length t)) (refuse (not (eqb (length row) (f .count))) RowLength Accepted) e in
-    record {
-      ready = ready f t (b .0);
-      size = eqb-true (length row) (f .count) (not-false (eqb (length row) (f .count)) (refuse-accepted (not (eqb (length row) (f .count))) RowLength Accepted (b .1) .0));
-    }
+use Rattle.matching.specs.Laws.Hits.{ready, RowAccepted}
 
 -- ---- the marks as a row
 

@@ -3,20 +3,15 @@ use Prim.Native.Nat.{ℕ, _+_, _-_, _≤_, _<_}
 use native.Mathlib.Omega.{arith}
 use mathlib.Core.Bool.{Bool, true, false, true≢false, false≢true}
 use mathlib.Core.List.{List}
-use mathlib.Core.Path.{_≡_, refl, sym, _∙_}
+use mathlib.Core.Path.{_≡_, refl}
 use lib.ListN.{length}
 use borrow.Author.Count.{below-more}
 use Rattle.pattern.specs.declared.Pattern.{Pattern}
 use Rattle.pattern.specs.Patterns.{takes, slotAt}
-use Rattle.pattern.specs.declared.refusal.Verdict.{Verdict}
-use Rattle.pattern.specs.declared.refusal.Verdict.the-variants.{Accepted, Refused}
-use Rattle.matching.specs.declared.hits.Tested.the-variants.{Yes}
-use Rattle.matching.specs.Occurrence.{Occurs, at}
-use Rattle.matching.specs.Answers.{rowVerdict, testedBy, isOccurrence}
+use Rattle.matching.specs.Occurrence.{at}
 use Rattle.matching.specs.Occurrences.{occurs}
 use Rattle.matching.specs.Steps.Testing.{Decides, PlaceFits, GapFits, SpanFits, WordsFit, GapsFit}
 use Rattle.matching.specs.Laws.Tests.{occurs-iff}
-use Rattle.matching.proofs.Answering.{RowAccepted, row-accepted}
 
 pub decides-true : {P : Type 0} → P → Decides true P
 decides-true p = record { yes = λ _. p; no = λ e. absurd (true≢false e) }
@@ -60,29 +55,3 @@ pub gaps-more : (f : Pattern) (r : List ℕ) (j : ℕ) {a b low high : ℕ} → 
     → ((k : ℕ) → k < j → 1 ≤ k → GapFits (at r (k - 1)) (at r k) (slotAt f k .low) (slotAt f k .high)) → GapFits a b low high
     → (k : ℕ) → k < j + 1 → 1 ≤ k → GapFits (at r (k - 1)) (at r k) (slotAt f k .low) (slotAt f k .high)
 gaps-more f r j e1 e2 e3 e4 before here = below-more _ j before (λ _. rw (e1, e2, e3, e4) at here)
-
--- ---- what a row that is an occurrence brings
-
-pub record Hit (f : Pattern) (t row : List ℕ) : Type 0 where
-  pub accepted : RowAccepted f t row
-  pub occurs : Occurs f t row
-
-tested-yes : (v : Verdict) (b : Bool) → testedBy v b ≡ Yes → (v ≡ Accepted) × (b ≡ true)
-tested-yes Accepted true e = (refl, refl)
-tested-yes Accepted false e = let z : _≡_ {A = ℕ} 0 1 = cc in absurd (omega arith)
-tested-yes (Refused why) b e = let z : _≡_ {A = ℕ} 0 1 = cc in absurd (omega arith)
-
-pub hit : (f : Pattern) (t row : List ℕ) → isOccurrence f t row ≡ Yes → Hit f t row
-hit f t row e =
-    let b = tested-yes (rowVerdict f t row) (occurs f t row) e in
-    record { accepted = row-accepted (b .0); occurs = occurs-iff f t row .0 (b .1) }
-
--- from its first place to its last
-pub hit-first : {f : Pattern} {t row : List ℕ} → Hit f t row → 1 ≤ at row 0
-hit-first h = h .occurs .inside 0 (h .accepted .ready .some) .0
-
-pub hit-order : {f : Pattern} {t row : List ℕ} → Hit f t row → at row 0 ≤ at row (f .count - 1)
-hit-order h = omega (arith, h .occurs .span, h .accepted .ready .least)
-
-pub hit-last : {f : Pattern} {t row : List ℕ} → Hit f t row → at row (f .count - 1) ≤ length t
-hit-last {f} h = h .occurs .inside (f .count - 1) (omega (arith, h .accepted .ready .some)) .1

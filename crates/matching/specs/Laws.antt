@@ -19,3 +19,4 @@ pub mod Largest
 pub mod Texts
 pub mod Mirror
 pub mod Turning
+pub mod Hits

@@ -35,16 +35,16 @@ fn count_rows(g: Pattern, text: &[u16], mirrored: bool) -> usize
     requires { ⌜ Ready g (seen mirrored (now text)) ⌝ }
     ensures { λ r. ⌜ (r ≡ length (leftmost g (seen mirrored (now (text .entry))))) × (r ≤ 20000) ⌝ }
 {
-    let mut marks = [0u16; 16];
+    let mut last = [0u16; 16];
     let mut k: usize = 0;
     loop {
-        let a = search(g, text, mirrored, marks);
+        let a = search(g, text, mirrored, last);
         let found = a.found;
         if !found {
             return k;
         }
         let row = a.places;
-        marks = row;
+        last = row;
         k += 1;
     }
 }

@@ -2,8 +2,8 @@
 use native.Mathlib.Omega.{arith}
 use mathlib.Core.Path.{refl, sym, _∙_}
 use Rattle.matching.specs.Answers.{excerptOf, excerptStart}
-use Rattle.matching.proofs.Testing.{Hit, hit, hit-first, hit-order, hit-last}
 use borrow.Author.Needs.{needs}
+use Rattle.matching.specs.Laws.Hits.{Hit, hit, hit-first, hit-order, hit-last}
 use Rattle.matching.proofs.hits.excerpt.Statement.{statement}
 use Rattle.matching.proofs.hits.excerpt.Tie as tie
 

@@ -2,7 +2,7 @@
 use native.Mathlib.Omega.{arith}
 use mathlib.Core.Path.{sym, _∙_}
 use borrow.Author.Tests.{not-true, not-false}
-use Rattle.matching.proofs.Answering.{RowAccepted, row-accepted}
+use Rattle.matching.specs.Laws.Hits.{RowAccepted, row-accepted}
 use Rattle.matching.proofs.Testing.{no-words, no-gaps, no-span, all-fit}
 use borrow.Author.Needs.{needs}
 use Rattle.matching.proofs.hits.is_occurrence.Statement.{statement}
