@@ -1,0 +1,10 @@
+// Counting and listing all occurrences of a pattern in a text.
+mod halves;
+mod marks;
+mod numbers;
+mod spans;
+mod total;
+mod window;
+
+pub use total::Tallied;
+pub use total::tally;
