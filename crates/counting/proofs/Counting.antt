@@ -56,7 +56,7 @@ module _ (f : Pattern) (t : List ℕ) (first n more from : ℕ) where
   abbrev stop : ℕ → ℕ
   stop = stopAt f first n more
 
-  fits-inside : {M : List ℕ} → Marked f t M → first + n ≤ length t → (i j : ℕ) → j < f .count → i < size f n more j
+  pub fits-inside : {M : List ℕ} → Marked f t M → first + n ≤ length t → (i j : ℕ) → j < f .count → i < size f n more j
       → fits f t stop from j (first + i + 1) ≡ marked M (j * 20000 + first + i)
   unfolding fits stopAt size
   fits-inside m short i j l h =
@@ -126,13 +126,17 @@ module _ (f : Pattern) (t : List ℕ) (first n more from : ℕ) where
 
 -- ---- the loop over the slots: the slot j is done, its row has m places, and it is at most r from the first
 
+-- a slot that the run has come to: what can be reached there, and how many places its row has
+pub record Stage (f : Pattern) (n more j r m : ℕ) : Type 0 where
+  pub inside : j < f .count
+  pub reach : r ≡ far f j
+  pub rows : m ≡ size f n more j
+
 pub record Counting (f : Pattern) (t : List ℕ) (first n more from : ℕ) (H₀ L₀ : List ℕ) (j r m : ℕ) (H L : List ℕ) : Type 0 where
   pub long : length H ≡ length H₀
   pub long′ : length L ≡ length L₀
   pub room : Room n H L
-  pub inside : j < f .count
-  pub reach : r ≡ far f j
-  pub rows : m ≡ size f n more j
+  pub here : Stage f n more j r m
   pub holds : Holds f t first n more from (f .count - 1 - j) j H L
 
 pub counting-begin : {f : Pattern} {t : List ℕ} {first n more from r m : ℕ} {H L : List ℕ} → 1 ≤ f .count → Room n H L → r ≡ far f (f .count - 1)
@@ -141,9 +145,7 @@ counting-begin {f} h room x y s = record {
   long = refl;
   long′ = refl;
   room = room;
-  inside = omega arith;
-  reach = x;
-  rows = y;
+  here = record { inside = omega arith; reach = x; rows = y };
   holds = let e : f .count - 1 - (f .count - 1) ≡ 0 = omega arith in rw e s;
 }
 
@@ -151,9 +153,8 @@ far-suc : (f : Pattern) (i j : ℕ) → suc i ≡ j → far f j ≡ far f i + sl
 unfolding far
 far-suc f i j e = rw (← e)
 
--- what the next turn of the loop needs to know
-module _ {f : Pattern} {t : List ℕ} {first n more from : ℕ} {H₀ L₀ : List ℕ} {j r m : ℕ} {H L : List ℕ}
-    (c : Counting f t first n more from H₀ L₀ j r m H L) (pos : 0 < j) {high : ℕ} (eh : high ≡ slotAt f j .high) where
+-- one slot back: what can be reached, and how many places the row has
+module _ {f : Pattern} {n more j r m : ℕ} (c : Stage f n more j r m) (pos : 0 < j) {high : ℕ} (eh : high ≡ slotAt f j .high) where
   far-back : r ≡ far f (j - 1) + high + 1
   far-back = omega (arith, far-suc f (j - 1) j (omega arith), c .reach)
 
@@ -169,19 +170,22 @@ module _ {f : Pattern} {t : List ℕ} {first n more from : ℕ} {H₀ L₀ : Lis
     unfolding size
     size-less = let x = c .rows in let y = c .reach in let z = reach-back in (omega arith, omega arith)
 
+-- what the next turn of the loop keeps
+module _ {f : Pattern} {t : List ℕ} {first n more from : ℕ} {H₀ L₀ : List ℕ} {j r m : ℕ} {H L : List ℕ}
+    (c : Counting f t first n more from H₀ L₀ j r m H L) (pos : 0 < j) {high : ℕ} (eh : high ≡ slotAt f j .high) where
+  module _ {a : ℕ} (ea : a ≡ min n (more + (r - high - 1) + 1)) where
     pub counting-more : {H′ L′ : List ℕ} → length H′ ≡ length H → length L′ ≡ length L → Holds f t first n more from (suc (f .count - 1 - j)) (j - 1) H′ L′
         → Counting f t first n more from H₀ L₀ (j - 1) (r - high - 1) a H′ L′
     counting-more x y s =
-        let i = c .inside in
+        let i = c .here .inside in
         let rh = c .room .high in
         let rl = c .room .low in
+        let less = size-less (c .here) pos eh ea in
         record {
           long = x ∙ c .long;
           long′ = y ∙ c .long′;
           room = record { high = omega arith; low = omega arith };
-          inside = omega arith;
-          reach = reach-back .2;
-          rows = size-back;
+          here = record { inside = omega arith; reach = reach-back (c .here) pos eh .2; rows = size-back (c .here) pos eh ea };
           holds = let e : f .count - 1 - (j - 1) ≡ suc (f .count - 1 - j) = omega arith in rw e s;
         }
 

@@ -3,4 +3,6 @@ pub mod Answers
 pub mod Inputs
 pub mod Numbers
 pub mod Steps
+pub mod Tables
+pub mod Walks
 pub mod Laws

@@ -2,8 +2,10 @@
 mod halves;
 mod marks;
 mod numbers;
+mod reach;
 mod spans;
 mod total;
+mod walk;
 mod window;
 
 pub use total::Tallied;

@@ -92,7 +92,7 @@ mul-s c = let b = c .before .before .before .before .before .before .before .bef
     let g = b .pre .1 .1 .1 in
     let l = c .before .loop in
     let inv = l .inv in
-    let i = inv .inside in
+    let i = inv .here .inside in
     let pos = c .loop-test .taken in
     omega (arith, i, ok .pattern .few)
 
@@ -104,7 +104,7 @@ element-copy-out-s c = let b = c .before .before .before .before .before .before
     let g = b .pre .1 .1 .1 in
     let l = c .before .loop in
     let inv = l .inv in
-    let i = inv .inside in
+    let i = inv .here .inside in
     let pos = c .loop-test .taken in
     omega (arith, i, ok .pattern .few)
 
@@ -125,10 +125,10 @@ sub-r c = let b = c .before .before .before .before .before .before .before .bef
     let g = b .pre .1 .1 .1 in
     let l = c .before .before .before .before .loop in
     let inv = l .inv in
-    let i = inv .inside in
+    let i = inv .here .inside in
     let pos = c .before .before .before .loop-test .taken in
     let eh = c .widen2 .ensures .0 in
-    let back = reach-back inv pos eh in
+    let back = reach-back (inv .here) pos eh in
     back .0
 
 sub-r-2 : tie.Need-sub-r-2 Inv-loop μ-loop
@@ -139,10 +139,10 @@ sub-r-2 c = let b = c .before .before .before .before .before .before .before .b
     let g = b .pre .1 .1 .1 in
     let l = c .before .before .before .before .loop in
     let inv = l .inv in
-    let i = inv .inside in
+    let i = inv .here .inside in
     let pos = c .before .before .before .loop-test .taken in
     let eh = c .widen2 .ensures .0 in
-    let back = reach-back inv pos eh in
+    let back = reach-back (inv .here) pos eh in
     back .1
 
 add-clip-3 : tie.Need-add-clip-3 Inv-loop μ-loop
@@ -153,10 +153,10 @@ add-clip-3 c = let b = c .before .before .before .before .before .before .before
     let g = b .pre .1 .1 .1 in
     let l = c .before .before .before .before .loop in
     let inv = l .inv in
-    let i = inv .inside in
+    let i = inv .here .inside in
     let pos = c .before .before .before .loop-test .taken in
     let eh = c .widen2 .ensures .0 in
-    let back = reach-back inv pos eh in
+    let back = reach-back (inv .here) pos eh in
     omega (arith, g .1, back .2, reach-bound ok (l .j - 1) (omega (arith, i)))
 
 add-clip-4 : tie.Need-add-clip-4 Inv-loop μ-loop
@@ -167,10 +167,10 @@ add-clip-4 c = let b = c .before .before .before .before .before .before .before
     let g = b .pre .1 .1 .1 in
     let l = c .before .before .before .before .loop in
     let inv = l .inv in
-    let i = inv .inside in
+    let i = inv .here .inside in
     let pos = c .before .before .before .loop-test .taken in
     let eh = c .widen2 .ensures .0 in
-    let back = reach-back inv pos eh in
+    let back = reach-back (inv .here) pos eh in
     omega (arith, g .1, back .2, reach-bound ok (l .j - 1) (omega (arith, i)))
 
 clip-requires-2 : tie.Need-clip-requires-2 Inv-loop μ-loop
@@ -184,7 +184,7 @@ mul-spread c = let b = c .before .before .before .before .before .before .before
     let g = b .pre .1 .1 .1 in
     let l = c .before .before .before .before .before .loop in
     let inv = l .inv in
-    let i = inv .inside in
+    let i = inv .here .inside in
     let pos = c .before .before .before .before .loop-test .taken in
     omega (arith, i, ok .pattern .few)
 
@@ -196,7 +196,7 @@ add-spread c = let b = c .before .before .before .before .before .before .before
     let g = b .pre .1 .1 .1 in
     let l = c .before .before .before .before .before .loop in
     let inv = l .inv in
-    let i = inv .inside in
+    let i = inv .here .inside in
     let pos = c .before .before .before .before .loop-test .taken in
     omega (arith, i, ok .pattern .few, g .0, ok .short)
 
@@ -208,16 +208,16 @@ spread-requires c κs = let b = c .before .before .before .before .before .befor
     let g = b .pre .1 .1 .1 in
     let l = c .before .before .before .before .before .before .before .loop in
     let inv = l .inv in
-    let i = inv .inside in
+    let i = inv .here .inside in
     let pos = c .before .before .before .before .before .before .loop-test .taken in
     let eh = c .before .before .before .widen2 .ensures .0 in
-    let back = reach-back inv pos eh in
+    let back = reach-back (inv .here) pos eh in
     let ea = c .before .before .clip2 .ensures in
-    let less = size-less inv pos eh ea in
+    let less = size-less (inv .here) pos eh ea in
     let el = c .before .before .before .before .widen .ensures .0 in (
       room-less (inv .room) (less .1) refl refl,
       (
-        holds-falling (a .t1) (a .t .now) (a .first) (a .n) (a .more) (a .from) (inv .rows) (inv .holds),
+        holds-falling (a .t1) (a .t .now) (a .first) (a .n) (a .more) (a .from) (inv .here .rows) (inv .holds),
         (omega (arith, less, g .0, i, pos, ok .pattern .few, ok .short, b .pre .1 .0 .size), omega (arith, el, eh, gaps ok (l .j) i .0), c .before .before .before .widen2 .ensures .1, less .0, omega (arith, less .1, g .0, ok .short)),
       ),
     )
@@ -230,14 +230,14 @@ sums-requires-2 c κs = let b = c .before .before .before .before .before .befor
     let g = b .pre .1 .1 .1 in
     let l = c .before .before .before .before .before .before .before .before .before .before .before .before .before .before .loop in
     let inv = l .inv in
-    let i = inv .inside in
+    let i = inv .here .inside in
     let pos = c .before .before .before .before .before .before .before .before .before .before .before .before .before .loop-test .taken in
     let eh = c .before .before .before .before .before .before .before .before .before .before .widen2 .ensures .0 in
-    let back = reach-back inv pos eh in
+    let back = reach-back (inv .here) pos eh in
     let ea = c .before .before .before .before .before .before .before .before .before .clip2 .ensures in
-    let less = size-less inv pos eh ea in
-    let z = size-back inv pos eh ea in
-    let row = spread-row (a .t1) (a .t .now) (a .first) (a .n) (a .more) (a .from) {j = l .j} {j′ = l .j - 1} (b .pre .1 .0) (g .0) (omega (arith, i)) (omega (arith, pos)) (c .before .before .before .before .before .before .before .before .before .before .before .widen .ensures .0) eh (gaps ok (l .j) i .0) z (inv .rows) (less .0) (inv .holds) (c .before .before .before .before .before .before .spread .ensures) in
+    let less = size-less (inv .here) pos eh ea in
+    let z = size-back (inv .here) pos eh ea in
+    let row = spread-row (a .t1) (a .t .now) (a .first) (a .n) (a .more) (a .from) {j = l .j} {j′ = l .j - 1} (b .pre .1 .0) (g .0) (omega (arith, i)) (omega (arith, pos)) (c .before .before .before .before .before .before .before .before .before .before .before .widen .ensures .0) eh (gaps ok (l .j) i .0) z (inv .here .rows) (less .0) (inv .holds) (c .before .before .before .before .before .before .spread .ensures) in
     let kept = c .before .before .before .before .before .before .spread .kept in
     (room-less (inv .room) (omega (arith, less)) (kept .1 .1 .1 .1 .1 .1 .0) (kept .1 .1 .1 .1 .1 .1 .1 .0), row-summable (a .t1) (a .t .now) (a .first) (a .n) (a .more) (a .from) row ok (omega (arith, i, pos)) (omega (arith, g .0, ok .short)) z)
 
@@ -252,14 +252,14 @@ loop-again c = let b = c .before .before .before .before .before .before .before
     let g = b .pre .1 .1 .1 in
     let l = c .before .before .before .before .before .before .before .before .before .before .before .before .before .before .before .before .before .before .before .loop in
     let inv = l .inv in
-    let i = inv .inside in
+    let i = inv .here .inside in
     let pos = c .before .before .before .before .before .before .before .before .before .before .before .before .before .before .before .before .before .before .loop-test .taken in
     let eh = c .before .before .before .before .before .before .before .before .before .before .before .before .before .before .before .widen2 .ensures .0 in
-    let back = reach-back inv pos eh in
+    let back = reach-back (inv .here) pos eh in
     let ea = c .before .before .before .before .before .before .before .before .before .before .before .before .before .before .clip2 .ensures in
-    let less = size-less inv pos eh ea in
-    let z = size-back inv pos eh ea in
-    let row = spread-row (a .t1) (a .t .now) (a .first) (a .n) (a .more) (a .from) {j = l .j} {j′ = l .j - 1} (b .pre .1 .0) (g .0) (omega (arith, i)) (omega (arith, pos)) (c .before .before .before .before .before .before .before .before .before .before .before .before .before .before .before .before .widen .ensures .0) eh (gaps ok (l .j) i .0) z (inv .rows) (less .0) (inv .holds) (c .before .before .before .before .before .before .before .before .before .before .before .spread .ensures) in
+    let less = size-less (inv .here) pos eh ea in
+    let z = size-back (inv .here) pos eh ea in
+    let row = spread-row (a .t1) (a .t .now) (a .first) (a .n) (a .more) (a .from) {j = l .j} {j′ = l .j - 1} (b .pre .1 .0) (g .0) (omega (arith, i)) (omega (arith, pos)) (c .before .before .before .before .before .before .before .before .before .before .before .before .before .before .before .before .widen .ensures .0) eh (gaps ok (l .j) i .0) z (inv .here .rows) (less .0) (inv .holds) (c .before .before .before .before .before .before .before .before .before .before .before .spread .ensures) in
     let kept = c .before .before .before .before .before .before .before .before .before .before .before .spread .kept in
     let kept2 = c .before .before .before .before .sums2 .kept in
     counting-more inv pos eh ea (kept2 .1 .0 ∙ kept .1 .1 .1 .1 .1 .1 .0) (kept2 .1 .1 .0 ∙ kept .1 .1 .1 .1 .1 .1 .1 .0) (row-holds (a .t1) (a .t .now) (a .first) (a .n) (a .more) (a .from) row z (c .before .before .before .before .sums2 .ensures))
