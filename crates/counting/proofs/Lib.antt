@@ -5,4 +5,5 @@ pub mod Passes
 pub mod Reaching
 pub mod Tabling
 pub mod Walking
+pub mod Listings
 pub mod Answers

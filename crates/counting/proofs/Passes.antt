@@ -1,13 +1,13 @@
 -- The drivers: one run over the whole text, and one for each first place. Assumes nothing.
 use Prim.Native.Nat.{ℕ, zero, suc, _+_, _-_, _*_, _^_, _≤_, _<_, min}
 use mathlib.Core.List.{List}
-use mathlib.Core.Bool.{Bool, true, false, _&&_}
+use mathlib.Core.Bool.{Bool, true, false, _&&_, and-eq-true-iff}
 use mathlib.Core.Path.{_≡_, refl, sym, ap, _∙_, fun-ext}
 use native.Mathlib.Numerals.{add-one}
 use native.Mathlib.Omega.{arith}
 use lib.ListN.{length, getD, replicate, length-replicate}
-use lib.Dec.{ltb, eqb}
-use borrow.Author.Tests.{ne-eqb}
+use lib.Dec.{ltb, leb, eqb}
+use borrow.Author.Tests.{ne-eqb, le-leb, lt-leb, leb-true}
 use borrow.Author.Count.{below-more}
 use Rattle.pattern.specs.declared.Pattern.{Pattern}
 use Rattle.pattern.specs.Patterns.{slotAt, takes, member}
@@ -19,14 +19,14 @@ use Rattle.matching.specs.Laws.Branches.{when, fits, ways}
 use Rattle.matching.specs.Laws.Cover.{near, far, width, limit, least, starting, tally-all, tally-each}
 use Rattle.counting.specs.Laws.Bound.{starting-fits, far-bound, near-bound}
 use Rattle.counting.specs.Numbers.{val}
-use Rattle.counting.specs.Steps.{marked, SlotMarked, Marked, Room, size, stopAt, Holds}
+use Rattle.counting.specs.Steps.{marked, SlotMarked, Marked, Room, size, stopAt, Holds, free}
 
 pub total-last : (i : ℕ) (v : ℕ → ℕ) → total (i + 1) v 1 ≡ total i v 1 + v (i + 1)
 unfolding total
 total-last i v = omega (arith, total-split i 1 (i + 1) v 1 (i + 1) refl (omega arith))
 
 module _ {f : Pattern} {t : List ℕ} (ok : Input f t) where
-  stop-whole : (j : ℕ) → stopAt f 0 (length t) (length t) j ≡ length t + 1
+  pub stop-whole : (j : ℕ) → stopAt f 0 (length t) (length t) j ≡ length t + 1
   unfolding stopAt size
   stop-whole j = omega arith
 
@@ -61,7 +61,7 @@ module _ {f : Pattern} {t : List ℕ} (ok : Input f t) where
       ways-skip (f .count - 1) (limit f t (i + 1)) (least f (i + 1)) 0 (i + 1)
       (and-false (ltb (i + 1) (limit f t (i + 1) 0)) (rw d (sym x)))
 
-  stop-each : (i m w : ℕ) → w ≡ width f → m ≡ min w (length t - i) → (j : ℕ) → stopAt f i m 0 j ≡ limit f t (i + 1) j
+  pub stop-each : (i m w : ℕ) → w ≡ width f → m ≡ min w (length t - i) → (j : ℕ) → stopAt f i m 0 j ≡ limit f t (i + 1) j
   unfolding stopAt size limit
   stop-each i m w ew em j = omega arith
 
@@ -143,3 +143,24 @@ last-slot g {m} {k} i h = let e : m - 1 ≡ k = omega arith in (rw e (i .1), i .
 
 pub marks-new : (space : ℕ) → space ≤ length {A = ℕ} (replicate space 0)
 marks-new space = omega (arith, length-replicate {A = ℕ} space 0)
+
+-- ---- whether the span limits bind
+
+module _ (f : Pattern) (t : List ℕ) {l n r m : ℕ} (el : l ≡ f .least) (en : n ≡ near f (f .count - 1)) (er : r ≡ min (far f (f .count - 1) + 1) (length t)) (em : m ≡ f .most) where
+  pub free-yes : l ≤ n + 1 → r ≤ m → true ≡ free f t
+  unfolding free near far
+  free-yes a b = rw (← el, ← en, ← er, ← em, le-leb l (n + 1) a, le-leb r m b)
+
+  pub free-long : l ≤ n + 1 → m < r → false ≡ free f t
+  unfolding free near far
+  free-long a b = rw (← el, ← en, ← er, ← em, le-leb l (n + 1) a, lt-leb r m b)
+
+pub free-short : (f : Pattern) (t : List ℕ) {l n : ℕ} → l ≡ f .least → n ≡ near f (f .count - 1) → n + 1 < l → false ≡ free f t
+unfolding free near
+free-short f t {l} {n} el en a = rw (← el, ← en, lt-leb l (n + 1) a)
+
+pub free-bounds : (f : Pattern) (t : List ℕ) → free f t ≡ true → (f .least ≤ near f (f .count - 1) + 1) × (min (far f (f .count - 1) + 1) (length t) ≤ f .most)
+unfolding free
+free-bounds f t e =
+    let b = and-eq-true-iff (leb (f .least) (near f (f .count - 1) + 1)) (leb (min (far f (f .count - 1) + 1) (length t)) (f .most)) .0 e in
+    (leb-true _ _ (b .0), leb-true _ _ (b .1))

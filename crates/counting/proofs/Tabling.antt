@@ -59,7 +59,7 @@ and-other false b e d = absurd (true≢false (sym d))
 
 -- ---- the rows from a slot on, by the indexes of the window
 
-gather-shift : (c : ℕ) (g : ℕ → List (List ℕ)) (d x y : ℕ) → y ≡ d + x + 1 → gather g (places y c) ≡ gather (λ z. g (d + z + 1)) (places x c)
+pub gather-shift : (c : ℕ) (g : ℕ → List (List ℕ)) (d x y : ℕ) → y ≡ d + x + 1 → gather g (places y c) ≡ gather (λ z. g (d + z + 1)) (places x c)
 unfolding gather places
 gather-shift zero g d x y e = refl
 gather-shift (suc c) g d x y e = rw (gather-shift c g d (suc x) (suc y) (omega arith)) (ap (λ (k : ℕ). g k ++ gather (λ z. g (d + z + 1)) (places (suc x) c)) e)

@@ -10,7 +10,7 @@ use Rattle.pattern.specs.Patterns.{takes, slotAt}
 use Rattle.pattern.specs.declared.slot.Slot.{Slot}
 use Rattle.matching.specs.Laws.Sums.{rest}
 use Rattle.matching.specs.Laws.Branches.{when, ways}
-use Rattle.matching.specs.Laws.Cover.{far}
+use Rattle.matching.specs.Laws.Cover.{near, far}
 use Rattle.counting.specs.Numbers.{val}
 
 -- the mark at an index
@@ -64,3 +64,7 @@ stopAt f first n more j = first + size f n more j + 1
 -- the sums of the row of slot j, with k slots after it
 pub record Holds (f : Pattern) (t : List ℕ) (first n more from k j : ℕ) (H L : List ℕ) : Type 0 where
   pub sums : (i : ℕ) → i ≤ size f n more j → val H L i ≡ rest (ways f t (stopAt f first n more) from k j) (stopAt f first n more j) (first + i + 1)
+
+-- the span limits cannot bind: no row within the gaps is too short, and none in the text too long
+unfoldable pub free : Pattern → List ℕ → Bool
+free f t = leb (f .least) (near f (f .count - 1) + 1) && leb (min (far f (f .count - 1) + 1) (length t)) (f .most)

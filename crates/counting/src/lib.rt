@@ -1,5 +1,6 @@
 // Counting and listing all occurrences of a pattern in a text.
 mod halves;
+mod listing;
 mod marks;
 mod numbers;
 mod reach;
@@ -8,5 +9,6 @@ mod total;
 mod walk;
 mod window;
 
+pub use listing::all;
 pub use total::Tallied;
 pub use total::tally;

@@ -4,7 +4,7 @@ use crate::marks::mark;
 use crate::numbers::clip;
 use crate::numbers::widen;
 use crate::spans::farthest;
-use crate::spans::nearest;
+use crate::spans::unbound;
 use crate::window::ways;
 use pattern::Pattern;
 use pattern::Refusal;
@@ -73,15 +73,11 @@ pub(crate) fn count(f: Pattern, t: &[u16], marks: &[u8]) -> Wide
     requires { ⌜ Input f (now t) ⌝ ∗ ⌜ Marked f (now t) (now marks) ⌝ }
     ensures { λ r. ⌜ value r ≡ length (occurrences f (now (t .entry))) ⌝ }
 {
-    let near = nearest(f, t);
     let far = farthest(f, t);
-    let least = widen(f.least);
-    let most = widen(f.most);
-    if least <= near + 1 {
-        if clip(far + 1, t.len()) <= most {
-            return whole(f, t, marks, far);
-        }
+    if unbound(f, t) {
+        return whole(f, t, marks, far);
     }
+    let most = widen(f.most);
     each(f, t, marks, far, clip(most, far + 1))
 }
 

@@ -61,7 +61,7 @@ module _ (g : ℕ → List (List ℕ)) (x y z : ℕ) (a : x ≤ y) where
 empty-length : {R : List (List ℕ)} → R ≡ [] → length R ≡ 0
 empty-length e = rw e
 
-length-empty : (R : List (List ℕ)) → length R ≤ 0 → R ≡ []
+pub length-empty : (R : List (List ℕ)) → length R ≤ 0 → R ≡ []
 length-empty [] h = refl
 length-empty (r ∷ R) h = absurd (omega arith)
 
