@@ -1,11 +1,10 @@
 -- The answers of the public calls, from the verdict of the tests 1 to 6 and the number in its two halves. Assumes nothing.
-use Prim.Native.Nat.{ℕ, _+_, _*_, _/_, _^_, _≤_, _<_}
+use Prim.Native.Nat.{ℕ, _*_, _/_, _^_, _≤_, _<_}
 use native.Mathlib.Nat.{mul-le-mul, div-lt-iff-lt-mul, le-div-iff-mul-le}
 use native.Mathlib.Omega.{arith}
-use mathlib.Core.Path.{_≡_, refl, sym, ap, _∙_}
+use mathlib.Core.Path.{_≡_, ap}
 use mathlib.Core.List.{List}
 use lib.ListN.{length}
-use lib.Dec.{ltb}
 use borrow.Author.Tests.{lt-ltb, le-ltb}
 use Rattle.pattern.specs.declared.Pattern.{Pattern}
 use Rattle.pattern.specs.declared.refusal.Refusal.{Refusal}
@@ -19,7 +18,6 @@ use Rattle.matching.specs.Written.{written}
 use Rattle.matching.specs.declared.rows.Listed.the-variants.{Rows}
 use Rattle.matching.specs.declared.rows.Listed.the-variants.{Refused as Unlisted}
 use Rattle.counting.specs.declared.halves.Wide.{Wide}
-use Rattle.counting.specs.declared.total.Tallied.{Tallied}
 use Rattle.counting.specs.declared.total.Tallied.the-variants.{Total, Refused}
 use Rattle.counting.specs.Numbers.{value}
 use Rattle.counting.specs.Answers.{talliedAfter, allListed, allWritten}

@@ -1,17 +1,14 @@
 -- What the rows of numbers are: the ways on from each place of the window. Assumes nothing.
-use Prim.Native.Nat.{ℕ, zero, suc, _+_, _-_, _*_, _^_, _≤_, _<_, min}
+use Prim.Native.Nat.{ℕ, zero, suc, _+_, _-_, _*_, _≤_, _<_, min}
 use mathlib.Core.List.{List}
-use mathlib.Core.Bool.{Bool, true, false, _&&_}
 use mathlib.Core.Path.{_≡_, refl, sym, ap, _∙_}
 use native.Mathlib.Nat.{min-eq-left, min-eq-right}
 use native.Mathlib.Decide.{decLe}
 use native.Mathlib.Omega.{arith}
-use lib.ListN.{length, getD}
-use lib.Dec.{leb, ltb}
+use lib.ListN.{length}
 use borrow.Author.Tests.{lt-ltb, le-ltb}
 use Rattle.pattern.specs.declared.Pattern.{Pattern}
-use Rattle.pattern.specs.Patterns.{slotAt, takes, member}
-use Rattle.matching.specs.Occurrence.{wordAt}
+use Rattle.pattern.specs.Patterns.{slotAt}
 use Rattle.counting.specs.Laws.Inputs.{gaps}
 use Rattle.counting.specs.Inputs.{Input}
 use Rattle.matching.specs.Laws.Sums.{total, total-same, total-none, rest, run-inside, run-past}

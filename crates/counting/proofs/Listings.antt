@@ -1,6 +1,5 @@
 -- All occurrences by the walk: the rows of a window are those with its first place, or all of them. Assumes nothing.
-use Prim.Native.Nat.{ℕ, zero, suc, _+_, _-_, _*_, _≤_, _<_, min}
-use native.Mathlib.Numerals.{add-one}
+use Prim.Native.Nat.{ℕ, suc, _+_, _-_, _*_, _≤_, _<_, min}
 use native.Mathlib.Omega.{arith}
 use mathlib.Core.Path.{_≡_, refl, sym, ap, _∙_, fun-ext}
 use mathlib.Core.List.{List, [], _∷_, _++_, map}
@@ -15,7 +14,7 @@ use Rattle.matching.specs.Laws.Collections.{every-map}
 use Rattle.matching.specs.Laws.Enumeration.{occurrences-occur}
 use Rattle.matching.specs.Laws.Sums.{gather}
 use Rattle.matching.specs.Laws.Branches.{branches, length-branches, tree, forest, occurrences-forest}
-use Rattle.matching.specs.Laws.Cover.{near, far, width, limit, least, starting, covers-all, occurrences-each}
+use Rattle.matching.specs.Laws.Cover.{near, width, limit, least, starting, covers-all, occurrences-each}
 use Rattle.counting.specs.Inputs.{Input}
 use Rattle.counting.specs.Laws.Inputs.{gaps}
 use Rattle.counting.specs.Steps.{Marked, size, stopAt, free}

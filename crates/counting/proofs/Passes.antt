@@ -2,19 +2,18 @@
 use Prim.Native.Nat.{ℕ, zero, suc, _+_, _-_, _*_, _^_, _≤_, _<_, min}
 use mathlib.Core.List.{List}
 use mathlib.Core.Bool.{Bool, true, false, _&&_, and-eq-true-iff}
-use mathlib.Core.Path.{_≡_, refl, sym, ap, _∙_, fun-ext}
+use mathlib.Core.Path.{_≡_, refl, sym, _∙_, fun-ext}
 use native.Mathlib.Numerals.{add-one}
 use native.Mathlib.Omega.{arith}
 use lib.ListN.{length, getD, replicate, length-replicate}
-use lib.Dec.{ltb, leb, eqb}
+use lib.Dec.{ltb, leb}
 use borrow.Author.Tests.{ne-eqb, le-leb, lt-leb, leb-true}
 use borrow.Author.Count.{below-more}
 use Rattle.pattern.specs.declared.Pattern.{Pattern}
-use Rattle.pattern.specs.Patterns.{slotAt, takes, member}
-use Rattle.matching.specs.Occurrence.{wordAt}
+use Rattle.pattern.specs.Patterns.{slotAt, takes}
 use Rattle.matching.specs.Occurrences.{occurrences}
 use Rattle.counting.specs.Inputs.{Input}
-use Rattle.matching.specs.Laws.Sums.{total, total-split, rest, rest-step}
+use Rattle.matching.specs.Laws.Sums.{total, total-split, rest}
 use Rattle.matching.specs.Laws.Branches.{when, fits, ways}
 use Rattle.matching.specs.Laws.Cover.{near, far, width, limit, least, starting, tally-all, tally-each}
 use Rattle.counting.specs.Laws.Bound.{starting-fits, far-bound, near-bound}

@@ -1,24 +1,21 @@
 -- The table of a window: where the entries say that a slot stands next, there are rows of that slot and the slots after it. Assumes nothing.
 use Prim.Native.Nat.{ℕ, zero, suc, _+_, _-_, _*_, _≤_, _<_, min}
-use native.Mathlib.Numerals.{add-one}
 use native.Mathlib.Decide.{decLe, ℕ-discrete}
 use native.Mathlib.Omega.{arith}
 use mathlib.Core.Path.{_≡_, refl, sym, ap, _∙_}
 use mathlib.Core.List.{List, [], _∷_, _++_, map}
 use mathlib.Core.Bool.{Bool, true, false, _&&_, and-eq-true-iff, true≢false}
 use lib.ListN.{length, getD}
-use lib.Dec.{leb, ltb}
+use lib.Dec.{leb}
 use borrow.Author.Tests.{le-ltb, leb-true, leb-false}
 use Rattle.pattern.specs.declared.Pattern.{Pattern}
-use Rattle.pattern.specs.Patterns.{slotAt, takes}
+use Rattle.pattern.specs.Patterns.{slotAt}
 use Rattle.matching.specs.Occurrences.{places}
 use Rattle.matching.specs.Laws.Sums.{gather}
 use Rattle.matching.specs.Laws.Branches.{only, fits, branches}
 use Rattle.matching.specs.Laws.Cover.{far}
-use Rattle.counting.specs.Inputs.{Input}
-use Rattle.counting.specs.Laws.Inputs.{gaps}
 use Rattle.counting.specs.Steps.{marked, Marked, size, stopAt}
-use Rattle.counting.specs.Tables.{Least, Reached, ends, leads, Next, rowsOf, rowsAt, Tabled}
+use Rattle.counting.specs.Tables.{Least, Reached, ends, leads, Next, rowsOf, Tabled}
 use Rattle.counting.specs.Walks.{run}
 use Rattle.counting.specs.Laws.Runs.{run-none, run-some}
 use Rattle.counting.proofs.Counting.{fits-inside, Stage, reach-back, size-back, size-less}

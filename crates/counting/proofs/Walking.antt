@@ -1,5 +1,5 @@
 -- What the walk over a table keeps: the rows that start at the indexes passed stand in the list. Assumes nothing.
-use Prim.Native.Nat.{ℕ, suc, _+_, _-_, _*_, _≤_, _<_}
+use Prim.Native.Nat.{ℕ, _+_, _-_, _*_, _≤_, _<_}
 use native.Mathlib.Nat.{add-mul, mul-le-mul, mul-le-mul-right}
 use native.Mathlib.Numerals.{add-one}
 use native.Mathlib.Omega.{arith}
@@ -13,7 +13,7 @@ use borrow.Rule.Slice.PartMut.{putMid}
 use Rattle.pattern.specs.declared.Pattern.{Pattern}
 use Rattle.matching.specs.Written.{rowOver}
 use Rattle.counting.specs.Tables.{Next}
-use Rattle.counting.specs.Walks.{run, put, Bounds, Leads, Walk, Walked}
+use Rattle.counting.specs.Walks.{run, put, Bounds, Walk, Walked}
 use Rattle.counting.specs.Laws.Runs.{run-none, run-skip, run-more, run-part, put-append}
 
 -- ---- the gaps before the slots: done below j

@@ -1,11 +1,10 @@
 -- Writing rows into a list by walking down the slots, from any table of rows.
-use Prim.Native.Nat.{ℕ, zero, suc, _+_, _-_, _*_, _≤_, _<_}
+use Prim.Native.Nat.{ℕ, suc, _+_, _-_, _*_, _≤_, _<_}
 use mathlib.Core.List.{List, [], _∷_, _++_, map}
 use mathlib.Core.Path.{_≡_}
 use lib.ListN.{length, getD, take}
 use lib.Seq.{paste}
 use Rattle.pattern.specs.declared.Pattern.{Pattern}
-use Rattle.pattern.specs.Patterns.{slotAt}
 use Rattle.matching.specs.Laws.Sums.{gather}
 use Rattle.matching.specs.Occurrences.{places}
 use Rattle.counting.specs.Tables.{Next}

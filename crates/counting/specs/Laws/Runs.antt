@@ -3,8 +3,8 @@ use Prim.Native.Nat.{ℕ, zero, suc, _+_, _-_, _*_, _≤_, _<_}
 use native.Mathlib.Nat.{add-mul, suc-mul, zero-mul}
 use native.Mathlib.Omega.{arith}
 use mathlib.Core.Path.{_≡_, refl, sym, ap, _∙_}
-use mathlib.Core.List.{List, [], _∷_, _++_, map, append-nil, append-assoc}
-use lib.ListN.{length, take, drop, length-append, length-take, take-append-drop}
+use mathlib.Core.List.{List, [], _∷_, _++_, append-nil, append-assoc}
+use lib.ListN.{length, take, drop, length-append, take-append-drop}
 use lib.Seq.{paste, take-all, take-paste, drop-paste, length-paste, drop-drop}
 use Rattle.matching.specs.Collections.{Every, none, more}
 use Rattle.matching.specs.Laws.Sums.{gather}

@@ -1,3 +1,4 @@
+-- `counting_cases::show_room` is safe and ends: the part that it lends is as long as it says.
 use borrow.Author.Needs.{needs}
 use native.Mathlib.Omega.{arith}
 use mathlib.Core.Path.{sym}

@@ -1,6 +1,6 @@
+-- `counting_cases::show_texts` is safe and ends: what it reads stands in the tables.
 use borrow.Author.Needs.{needs}
 use Prim.Native.Nat.{_≤_, _-_}
-use native.Mathlib.Omega.{arith}
 use Rattle.counting_cases.proofs.show_texts.Statement.{statement}
 use Rattle.counting_cases.proofs.show_texts.Tie as tie
 
@@ -10,135 +10,102 @@ Inv-loop words k₀ k = k ≤ 9
 abbrev μ-loop : tie.MeasureT-loop
 μ-loop words k₀ k = 9 - k
 
--- src/main.rt:287:5
 loop-holds : tie.Need-loop-holds Inv-loop μ-loop
 loop-holds c = search needs
 
--- src/main.rt:288:22
 mul-limits : tie.Need-mul-limits Inv-loop μ-loop
 mul-limits c = search needs
 
--- src/main.rt:289:29
 mul-built : tie.Need-mul-built Inv-loop μ-loop
 mul-built c = search needs
 
--- src/main.rt:289:29
 array-read-built : tie.Need-array-read-built Inv-loop μ-loop
 array-read-built c = search needs
 
--- src/main.rt:289:51
 add-built : tie.Need-add-built Inv-loop μ-loop
 add-built c = search needs
 
--- src/main.rt:289:42
 mul-built-2 : tie.Need-mul-built-2 Inv-loop μ-loop
 mul-built-2 c = search needs
 
--- src/main.rt:289:42
 array-read-built-2 : tie.Need-array-read-built-2 Inv-loop μ-loop
 array-read-built-2 c = search needs
 
--- src/main.rt:289:23
 built-requires : tie.Need-built-requires Inv-loop μ-loop
 built-requires c κs = search needs
 
--- src/main.rt:290:13
 mul-with-span : tie.Need-mul-with-span Inv-loop μ-loop
 mul-with-span c = search needs
 
--- src/main.rt:290:13
 array-read-with-span : tie.Need-array-read-with-span Inv-loop μ-loop
 array-read-with-span c = search needs
 
--- src/main.rt:291:19
 add-with-span : tie.Need-add-with-span Inv-loop μ-loop
 add-with-span c = search needs
 
--- src/main.rt:291:13
 mul-with-span-2 : tie.Need-mul-with-span-2 Inv-loop μ-loop
 mul-with-span-2 c = search needs
 
--- src/main.rt:291:13
 array-read-with-span-2 : tie.Need-array-read-with-span-2 Inv-loop μ-loop
 array-read-with-span-2 c = search needs
 
--- src/main.rt:289:13
 with-span-requires : tie.Need-with-span-requires Inv-loop μ-loop
 with-span-requires c κs = search needs
 
--- src/main.rt:293:17
 mul-a : tie.Need-mul-a Inv-loop μ-loop
 mul-a c = search needs
 
--- src/main.rt:293:17
 array-read-a : tie.Need-array-read-a Inv-loop μ-loop
 array-read-a c = search needs
 
--- src/main.rt:294:23
 add-e : tie.Need-add-e Inv-loop μ-loop
 add-e c = search needs
 
--- src/main.rt:294:17
 mul-e : tie.Need-mul-e Inv-loop μ-loop
 mul-e c = search needs
 
--- src/main.rt:294:17
 array-read-e : tie.Need-array-read-e Inv-loop μ-loop
 array-read-e c = search needs
 
--- src/main.rt:296:24
 mul-text : tie.Need-mul-text Inv-loop μ-loop
 mul-text c = search needs
 
--- src/main.rt:296:24
 part-text-start : tie.Need-part-text-start Inv-loop μ-loop
 part-text-start c = search needs
 
--- src/main.rt:296:24
 part-text-end : tie.Need-part-text-end Inv-loop μ-loop
 part-text-end c = search needs
 
--- src/main.rt:297:24
 mul-room : tie.Need-mul-room Inv-loop μ-loop
 mul-room c = search needs
 
--- src/main.rt:297:24
 array-read-room : tie.Need-array-read-room Inv-loop μ-loop
 array-read-room c = search needs
 
--- src/main.rt:298:13
 show-tally-requires : tie.Need-show-tally-requires Inv-loop μ-loop
 show-tally-requires c κs = search needs
 
--- src/main.rt:299:37
 add-show-room : tie.Need-add-show-room Inv-loop μ-loop
 add-show-room c = search needs
 
--- src/main.rt:299:13
 show-room-requires : tie.Need-show-room-requires Inv-loop μ-loop
 show-room-requires c κs = search needs
 
--- src/main.rt:301:41
 sub-show-room : tie.Need-sub-show-room Inv-loop μ-loop
 sub-show-room c = search needs
 
--- src/main.rt:301:17
 show-room-requires-2 : tie.Need-show-room-requires-2 Inv-loop μ-loop
 show-room-requires-2 c κs = search needs
 
--- src/main.rt:287:9
 add-k : tie.Need-add-k Inv-loop μ-loop
 add-k c = search needs
 
--- src/main.rt:287:5
 loop-less : tie.Need-loop-less Inv-loop μ-loop
 loop-less c = search needs
 
--- src/main.rt:287:5
 loop-again : tie.Need-loop-again Inv-loop μ-loop
 loop-again c = search needs
 
--- src/main.rt:285:1
 returns : tie.Need-returns Inv-loop μ-loop
 returns c = search needs
 

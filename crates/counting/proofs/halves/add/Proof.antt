@@ -1,3 +1,4 @@
+-- `counting::halves::add` meets its contract: where the low halves' sum wraps it is less than each of them, and carries 1.
 use Rattle.counting.proofs.Carry.{high, high-carry}
 use borrow.Author.Needs.{needs}
 use Rattle.counting.proofs.halves.add.Statement.{statement}

@@ -1,6 +1,6 @@
+-- `counting::halves::sub` meets its contract: where the low half is too small, 1 is borrowed from the high half.
 use Rattle.counting.proofs.Carry.{high-less, high-borrow, less-borrow, less-plain}
 use borrow.Author.Needs.{needs}
-use native.Mathlib.Omega.{arith}
 use Rattle.counting.proofs.halves.sub.Statement.{statement}
 use Rattle.counting.proofs.halves.sub.Tie as tie
 

@@ -1,3 +1,4 @@
+-- `counting::listing::put_each` meets its contract. The invariant: the occurrences with a first place passed stand in the list.
 use native.Mathlib.Omega.{arith}
 use Prim.Native.Nat.{_+_, _-_}
 use mathlib.Core.Path.{_≡_, refl, _∙_}
@@ -6,14 +7,6 @@ use Rattle.counting.proofs.Listings.{leading, Listing, listing-begin, l
 use borrow.Author.Needs.{needs}
 use Rattle.counting.proofs.listing.put_each.Statement.{statement}
 use Rattle.counting.proofs.listing.put_each.Tie as tie
-use Rattle.counting.proofs.listing.put_each.Reads as reads
-use Rattle.counting.proofs.listing.put_each.Lts as lts
-use Rattle.counting.proofs.numbers.clip.Reads as clip-reads
-use Rattle.counting.proofs.numbers.widen.Reads as widen-reads
-use Rattle.counting.proofs.reach.reach_all.Reads as reach-all-reads
-use Rattle.counting.proofs.walk.highs.Reads as highs-reads
-use Rattle.counting.proofs.walk.lows.Reads as lows-reads
-use Rattle.counting.proofs.walk.walk.Reads as walk-reads
 
 abbrev Inv-loop : tie.InvT-loop
 Inv-loop f t marks reach w next₀ list₀ n m least low high row rows₀ i₀ next list rows i = (length next ≡ length next₀) × Listing f t list₀ i rows list
@@ -21,89 +14,68 @@ Inv-loop f t marks reach w next₀ list₀ n m least low high row rows₀ i₀ n
 abbrev μ-loop : tie.MeasureT-loop
 μ-loop f t marks reach w next₀ list₀ n m least low high row rows₀ i₀ next list rows i = n - i
 
--- src/listing.rt:61:9
 widen-requires : tie.Need-widen-requires Inv-loop μ-loop
 widen-requires c κs = search needs
 
--- src/listing.rt:62:15
 lows-requires : tie.Need-lows-requires Inv-loop μ-loop
-lows-requires c κs = (c .before .before .before .before .before .pre) .0 .pattern .few
+lows-requires c κs = c .before .before .before .before .before .pre .0 .pattern .few
 
--- src/listing.rt:63:16
 highs-requires : tie.Need-highs-requires Inv-loop μ-loop
-highs-requires c κs = (c .before .before .before .before .before .before .pre) .0 .pattern .few
+highs-requires c κs = c .before .before .before .before .before .before .pre .0 .pattern .few
 
--- src/listing.rt:67:5
 loop-holds : tie.Need-loop-holds Inv-loop μ-loop
 loop-holds c = (refl, listing-begin)
 
--- src/listing.rt:68:12
 shared-slice-read-if1 : tie.Need-shared-slice-read-if1 Inv-loop μ-loop
-shared-slice-read-if1 c = let a = (c .before .before .before .before .before .before .before .before .before .before .args) in let ok = (c .before .before .before .before .before .before .before .before .before .before .pre) .0 in let mk = (c .before .before .before .before .before .before .before .before .before .before .pre) .1 .0 in let g = (c .before .before .before .before .before .before .before .before .before .before .pre) .1 .1 in let short = ok .short in let l = (c .before .before .loop) in let s = l .inv .1 in let n = (c .before .loop-test) .taken in omega (arith, mk .size)
+shared-slice-read-if1 c = let a = (c .before .before .before .before .before .before .before .before .before .before .args) in let ok = c .before .before .before .before .before .before .before .before .before .before .pre .0 in let mk = c .before .before .before .before .before .before .before .before .before .before .pre .1 .0 in let g = c .before .before .before .before .before .before .before .before .before .before .pre .1 .1 in let short = ok .short in let l = (c .before .before .loop) in let s = l .inv .1 in let n = c .before .loop-test .taken in omega (arith, mk .size)
 
--- src/listing.rt:69:29
 sub-clip : tie.Need-sub-clip Inv-loop μ-loop
 sub-clip c = search needs
 
--- src/listing.rt:69:17
 clip-requires : tie.Need-clip-requires Inv-loop μ-loop
 clip-requires c κs = search needs
 
--- src/listing.rt:70:52
 add-reach-all : tie.Need-add-reach-all Inv-loop μ-loop
-add-reach-all c = let a = (c .before .before .before .before .before .before .before .before .before .before .before .before .args) in let ok = (c .before .before .before .before .before .before .before .before .before .before .before .before .pre) .0 in let mk = (c .before .before .before .before .before .before .before .before .before .before .before .before .pre) .1 .0 in let g = (c .before .before .before .before .before .before .before .before .before .before .before .before .pre) .1 .1 in let short = ok .short in let l = (c .before .before .before .before .loop) in let s = l .inv .1 in let n = (c .before .before .before .loop-test) .taken in omega (arith, (c .before .before .before .before .before .before .before .widen) .ensures .1)
+add-reach-all c = let a = (c .before .before .before .before .before .before .before .before .before .before .before .before .args) in let ok = c .before .before .before .before .before .before .before .before .before .before .before .before .pre .0 in let mk = c .before .before .before .before .before .before .before .before .before .before .before .before .pre .1 .0 in let g = c .before .before .before .before .before .before .before .before .before .before .before .before .pre .1 .1 in let short = ok .short in let l = (c .before .before .before .before .loop) in let s = l .inv .1 in let n = c .before .before .before .loop-test .taken in omega (arith, c .before .before .before .before .before .before .before .widen .ensures .1)
 
--- src/listing.rt:70:13
 reach-all-requires : tie.Need-reach-all-requires Inv-loop μ-loop
-reach-all-requires c κs = let a = (c .before .before .before .before .before .before .before .before .before .before .before .before .before .args) in let ok = (c .before .before .before .before .before .before .before .before .before .before .before .before .before .pre) .0 in let mk = (c .before .before .before .before .before .before .before .before .before .before .before .before .before .pre) .1 .0 in let g = (c .before .before .before .before .before .before .before .before .before .before .before .before .before .pre) .1 .1 in let short = ok .short in let l = (c .before .before .before .before .before .loop) in let s = l .inv .1 in let n = (c .before .before .before .before .loop-test) .taken in (ok, (mk, (omega (arith, (c .before .clip) .ensures), omega arith, g .0, omega (arith, l .inv .0, g .3))))
+reach-all-requires c κs = let a = (c .before .before .before .before .before .before .before .before .before .before .before .before .before .args) in let ok = c .before .before .before .before .before .before .before .before .before .before .before .before .before .pre .0 in let mk = c .before .before .before .before .before .before .before .before .before .before .before .before .before .pre .1 .0 in let g = c .before .before .before .before .before .before .before .before .before .before .before .before .before .pre .1 .1 in let short = ok .short in let l = (c .before .before .before .before .before .loop) in let s = l .inv .1 in let n = c .before .before .before .before .loop-test .taken in (ok, (mk, (omega (arith, c .before .clip .ensures), omega arith, g .0, omega (arith, l .inv .0, g .3))))
 
--- src/listing.rt:71:25
 slice-aggregate-walk : tie.Need-slice-aggregate-walk Inv-loop μ-loop
 slice-aggregate-walk c = search needs
 
--- src/listing.rt:71:31
 slice-aggregate-walk-2 : tie.Need-slice-aggregate-walk-2 Inv-loop μ-loop
 slice-aggregate-walk-2 c = search needs
 
--- src/listing.rt:71:13
 walk-requires : tie.Need-walk-requires Inv-loop μ-loop
-walk-requires c κs = let a = (c .before .before .before .before .before .before .before .before .before .before .before .before .before .before .before .before .before .before .before .before .args) in let ok = (c .before .before .before .before .before .before .before .before .before .before .before .before .before .before .before .before .before .before .before .before .pre) .0 in let mk = (c .before .before .before .before .before .before .before .before .before .before .before .before .before .before .before .before .before .before .before .before .pre) .1 .0 in let g = (c .before .before .before .before .before .before .before .before .before .before .before .before .before .before .before .before .before .before .before .before .pre) .1 .1 in let short = ok .short in let l = (c .before .before .before .before .before .before .before .before .before .before .before .before .loop) in let s = l .inv .1 in let n = (c .before .before .before .before .before .before .before .before .before .before .before .loop-test) .taken in let lead = leading (a .f) (a .t .now) (l .i) ((c .before .before .before .before .before .before .before .before .clip) .result) 0 (l .i + (c .before .before .before .before .before .before .before .before .before .before .before .before .before .before .before .widen) .result) ok (omega (arith, (c .before .before .before .before .before .before .before .before .clip) .ensures, n)) ((c .before .before .before .before .before .before .reach-all) .ensures) ((c .before .before .before .before .before .before .before .before .before .before .before .before .before .before .lows) .ensures) ((c .before .before .before .before .before .before .before .before .before .before .before .before .before .highs) .ensures) (omega (arith, (c .before .before .before .before .before .before .reach-all) .kept .1 .1 .1 .1 .1 .1 .1 .1 .0, l .inv .0, g .3)) in let ef : l .i + (c .before .before .before .before .before .before .before .before .before .before .before .before .before .before .before .widen) .result ≡ l .i + a .f .least = omega (arith, (c .before .before .before .before .before .before .before .before .before .before .before .before .before .before .before .widen) .ensures .0) in window-walk ok s n (g .1) ((c .before .before .before .before .before .before .before .before .clip) .ensures) ef lead (g .4)
+walk-requires c κs = let a = (c .before .before .before .before .before .before .before .before .before .before .before .before .before .before .before .before .before .before .before .before .args) in let ok = c .before .before .before .before .before .before .before .before .before .before .before .before .before .before .before .before .before .before .before .before .pre .0 in let mk = c .before .before .before .before .before .before .before .before .before .before .before .before .before .before .before .before .before .before .before .before .pre .1 .0 in let g = c .before .before .before .before .before .before .before .before .before .before .before .before .before .before .before .before .before .before .before .before .pre .1 .1 in let short = ok .short in let l = (c .before .before .before .before .before .before .before .before .before .before .before .before .loop) in let s = l .inv .1 in let n = c .before .before .before .before .before .before .before .before .before .before .before .loop-test .taken in let lead = leading (a .f) (a .t .now) (l .i) (c .before .before .before .before .before .before .before .before .clip .result) 0 (l .i + c .before .before .before .before .before .before .before .before .before .before .before .before .before .before .before .widen .result) ok (omega (arith, c .before .before .before .before .before .before .before .before .clip .ensures, n)) (c .before .before .before .before .before .before .reach-all .ensures) (c .before .before .before .before .before .before .before .before .before .before .before .before .before .before .lows .ensures) (c .before .before .before .before .before .before .before .before .before .before .before .before .before .highs .ensures) (omega (arith, c .before .before .before .before .before .before .reach-all .kept .1 .1 .1 .1 .1 .1 .1 .1 .0, l .inv .0, g .3)) in let ef : l .i + c .before .before .before .before .before .before .before .before .before .before .before .before .before .before .before .widen .result ≡ l .i + a .f .least = omega (arith, c .before .before .before .before .before .before .before .before .before .before .before .before .before .before .before .widen .ensures .0) in window-walk ok s n (g .1) (c .before .before .before .before .before .before .before .before .clip .ensures) ef lead (g .4)
 
--- src/listing.rt:72:13
 add-i : tie.Need-add-i Inv-loop μ-loop
-add-i c = let a = (c .before .before .before .before .before .before .before .before .before .before .before .before .before .before .before .before .before .before .before .before .before .before .before .args) in let ok = (c .before .before .before .before .before .before .before .before .before .before .before .before .before .before .before .before .before .before .before .before .before .before .before .pre) .0 in let mk = (c .before .before .before .before .before .before .before .before .before .before .before .before .before .before .before .before .before .before .before .before .before .before .before .pre) .1 .0 in let g = (c .before .before .before .before .before .before .before .before .before .before .before .before .before .before .before .before .before .before .before .before .before .before .before .pre) .1 .1 in let short = ok .short in let l = (c .before .before .before .before .before .before .before .before .before .before .before .before .before .before .before .loop) in let s = l .inv .1 in let n = (c .before .before .before .before .before .before .before .before .before .before .before .before .before .before .loop-test) .taken in omega arith
+add-i c = let a = (c .before .before .before .before .before .before .before .before .before .before .before .before .before .before .before .before .before .before .before .before .before .before .before .args) in let ok = c .before .before .before .before .before .before .before .before .before .before .before .before .before .before .before .before .before .before .before .before .before .before .before .pre .0 in let mk = c .before .before .before .before .before .before .before .before .before .before .before .before .before .before .before .before .before .before .before .before .before .before .before .pre .1 .0 in let g = c .before .before .before .before .before .before .before .before .before .before .before .before .before .before .before .before .before .before .before .before .before .before .before .pre .1 .1 in let short = ok .short in let l = (c .before .before .before .before .before .before .before .before .before .before .before .before .before .before .before .loop) in let s = l .inv .1 in let n = c .before .before .before .before .before .before .before .before .before .before .before .before .before .before .loop-test .taken in omega arith
 
--- src/listing.rt:67:5
 loop-less : tie.Need-loop-less Inv-loop μ-loop
 loop-less c = search needs
 
--- src/listing.rt:67:5
 loop-again : tie.Need-loop-again Inv-loop μ-loop
-loop-again c = let a = (c .before .before .before .before .before .before .before .before .before .before .before .before .before .before .before .before .before .before .before .before .before .before .before .args) in let ok = (c .before .before .before .before .before .before .before .before .before .before .before .before .before .before .before .before .before .before .before .before .before .before .before .pre) .0 in let mk = (c .before .before .before .before .before .before .before .before .before .before .before .before .before .before .before .before .before .before .before .before .before .before .before .pre) .1 .0 in let g = (c .before .before .before .before .before .before .before .before .before .before .before .before .before .before .before .before .before .before .before .before .before .before .before .pre) .1 .1 in let short = ok .short in let l = (c .before .before .before .before .before .before .before .before .before .before .before .before .before .before .before .loop) in let s = l .inv .1 in let n = (c .before .before .before .before .before .before .before .before .before .before .before .before .before .before .loop-test) .taken in let lead = leading (a .f) (a .t .now) (l .i) ((c .before .before .before .before .before .before .before .before .before .before .before .clip) .result) 0 (l .i + (c .before .before .before .before .before .before .before .before .before .before .before .before .before .before .before .before .before .before .widen) .result) ok (omega (arith, (c .before .before .before .before .before .before .before .before .before .before .before .clip) .ensures, n)) ((c .before .before .before .before .before .before .before .before .before .reach-all) .ensures) ((c .before .before .before .before .before .before .before .before .before .before .before .before .before .before .before .before .before .lows) .ensures) ((c .before .before .before .before .before .before .before .before .before .before .before .before .before .before .before .before .highs) .ensures) (omega (arith, (c .before .before .before .before .before .before .before .before .before .reach-all) .kept .1 .1 .1 .1 .1 .1 .1 .1 .0, l .inv .0, g .3)) in let ef : l .i + (c .before .before .before .before .before .before .before .before .before .before .before .before .before .before .before .before .before .before .widen) .result ≡ l .i + a .f .least = omega (arith, (c .before .before .before .before .before .before .before .before .before .before .before .before .before .before .before .before .before .before .widen) .ensures .0) in ((c .before .before .before .before .before .before .before .before .before .reach-all) .kept .1 .1 .1 .1 .1 .1 .1 .1 .0 ∙ l .inv .0, listing-more ok s n (g .1) ((c .before .before .before .before .before .before .before .before .before .before .before .clip) .ensures) ef lead (g .4) ((c .before .before .walk) .kept .1 .1 .1 .1 .1 .1 .1 .1 .1 .1 .0) ((c .before .before .walk) .ensures (window-walk ok s n (g .1) ((c .before .before .before .before .before .before .before .before .before .before .before .clip) .ensures) ef lead (g .4))))
+loop-again c = let a = (c .before .before .before .before .before .before .before .before .before .before .before .before .before .before .before .before .before .before .before .before .before .before .before .args) in let ok = c .before .before .before .before .before .before .before .before .before .before .before .before .before .before .before .before .before .before .before .before .before .before .before .pre .0 in let mk = c .before .before .before .before .before .before .before .before .before .before .before .before .before .before .before .before .before .before .before .before .before .before .before .pre .1 .0 in let g = c .before .before .before .before .before .before .before .before .before .before .before .before .before .before .before .before .before .before .before .before .before .before .before .pre .1 .1 in let short = ok .short in let l = (c .before .before .before .before .before .before .before .before .before .before .before .before .before .before .before .loop) in let s = l .inv .1 in let n = c .before .before .before .before .before .before .before .before .before .before .before .before .before .before .loop-test .taken in let lead = leading (a .f) (a .t .now) (l .i) (c .before .before .before .before .before .before .before .before .before .before .before .clip .result) 0 (l .i + c .before .before .before .before .before .before .before .before .before .before .before .before .before .before .before .before .before .before .widen .result) ok (omega (arith, c .before .before .before .before .before .before .before .before .before .before .before .clip .ensures, n)) (c .before .before .before .before .before .before .before .before .before .reach-all .ensures) (c .before .before .before .before .before .before .before .before .before .before .before .before .before .before .before .before .before .lows .ensures) (c .before .before .before .before .before .before .before .before .before .before .before .before .before .before .before .before .highs .ensures) (omega (arith, c .before .before .before .before .before .before .before .before .before .reach-all .kept .1 .1 .1 .1 .1 .1 .1 .1 .0, l .inv .0, g .3)) in let ef : l .i + c .before .before .before .before .before .before .before .before .before .before .before .before .before .before .before .before .before .before .widen .result ≡ l .i + a .f .least = omega (arith, c .before .before .before .before .before .before .before .before .before .before .before .before .before .before .before .before .before .before .widen .ensures .0) in (c .before .before .before .before .before .before .before .before .before .reach-all .kept .1 .1 .1 .1 .1 .1 .1 .1 .0 ∙ l .inv .0, listing-more ok s n (g .1) (c .before .before .before .before .before .before .before .before .before .before .before .clip .ensures) ef lead (g .4) (c .before .before .walk .kept .1 .1 .1 .1 .1 .1 .1 .1 .1 .1 .0) (c .before .before .walk .ensures (window-walk ok s n (g .1) (c .before .before .before .before .before .before .before .before .before .before .before .clip .ensures) ef lead (g .4))))
 
--- src/listing.rt:74:13
 add-i-2 : tie.Need-add-i-2 Inv-loop μ-loop
-add-i-2 c = let a = (c .before .before .before .before .before .before .before .before .before .before .before .args) in let ok = (c .before .before .before .before .before .before .before .before .before .before .before .pre) .0 in let mk = (c .before .before .before .before .before .before .before .before .before .before .before .pre) .1 .0 in let g = (c .before .before .before .before .before .before .before .before .before .before .before .pre) .1 .1 in let short = ok .short in let l = (c .before .before .before .loop) in let s = l .inv .1 in let n = (c .before .before .loop-test) .taken in omega arith
+add-i-2 c = let a = (c .before .before .before .before .before .before .before .before .before .before .before .args) in let ok = c .before .before .before .before .before .before .before .before .before .before .before .pre .0 in let mk = c .before .before .before .before .before .before .before .before .before .before .before .pre .1 .0 in let g = c .before .before .before .before .before .before .before .before .before .before .before .pre .1 .1 in let short = ok .short in let l = (c .before .before .before .loop) in let s = l .inv .1 in let n = c .before .before .loop-test .taken in omega arith
 
--- src/listing.rt:67:5
 loop-less-2 : tie.Need-loop-less-2 Inv-loop μ-loop
 loop-less-2 c = search needs
 
--- src/listing.rt:67:5
 loop-again-2 : tie.Need-loop-again-2 Inv-loop μ-loop
-loop-again-2 c = let a = (c .before .before .before .before .before .before .before .before .before .before .before .args) in let ok = (c .before .before .before .before .before .before .before .before .before .before .before .pre) .0 in let mk = (c .before .before .before .before .before .before .before .before .before .before .before .pre) .1 .0 in let g = (c .before .before .before .before .before .before .before .before .before .before .before .pre) .1 .1 in let short = ok .short in let l = (c .before .before .before .loop) in let s = l .inv .1 in let n = (c .before .before .loop-test) .taken in (l .inv .0, listing-skip ok s n mk ((c .if1) .left))
+loop-again-2 c = let a = (c .before .before .before .before .before .before .before .before .before .before .before .args) in let ok = c .before .before .before .before .before .before .before .before .before .before .before .pre .0 in let mk = c .before .before .before .before .before .before .before .before .before .before .before .pre .1 .0 in let g = c .before .before .before .before .before .before .before .before .before .before .before .pre .1 .1 in let short = ok .short in let l = (c .before .before .before .loop) in let s = l .inv .1 in let n = c .before .before .loop-test .taken in (l .inv .0, listing-skip ok s n mk (c .if1 .left))
 
--- src/listing.rt:47:1
 same-length : tie.Need-same-length Inv-loop μ-loop
-same-length c = (c .before .loop) .inv .0
+same-length c = c .before .loop .inv .0
 
--- src/listing.rt:47:1
 same-length-2 : tie.Need-same-length-2 Inv-loop μ-loop
-same-length-2 c = (c .before .loop) .inv .1 .long
+same-length-2 c = c .before .loop .inv .1 .long
 
--- src/listing.rt:47:1
 returns : tie.Need-returns Inv-loop μ-loop
-returns c = listed ((c .before .before .before .before .before .before .before .before .before .pre) .0) ((c .before .loop) .inv .1) ((c .loop-test) .left) ((c .before .before .before .before .before .before .before .before .before .pre) .1 .1 .4)
+returns c = listed (c .before .before .before .before .before .before .before .before .before .pre .0) (c .before .loop .inv .1) (c .loop-test .left) (c .before .before .before .before .before .before .before .before .before .pre .1 .1 .4)
 
 pub put-each-spec : {M : Type 1} → statement M
 put-each-spec =

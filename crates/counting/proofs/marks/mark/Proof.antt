@@ -1,3 +1,4 @@
+-- `counting::marks::mark` meets its contract. The invariant: the slots passed are marked.
 use Rattle.counting.proofs.Passes.{MarkedBelow, marks-begin, marks-more, all-marked}
 use Prim.Native.Nat.{_-_}
 use native.Mathlib.Omega.{arith}

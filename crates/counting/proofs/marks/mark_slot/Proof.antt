@@ -1,7 +1,7 @@
+-- `counting::marks::mark_slot` meets its contract. The invariant: the marks of the words passed are set.
 use Rattle.counting.proofs.Loops.{Marking, mark-begin, mark-more, slot-marked}
 use Prim.Native.Nat.{_-_, _≤_}
-use mathlib.Core.Path.{_≡_, refl, sym}
-use lib.ListN.{length}
+use mathlib.Core.Path.{sym}
 use borrow.Author.Needs.{needs}
 use Rattle.counting.proofs.marks.mark_slot.Statement.{statement}
 use Rattle.counting.proofs.marks.mark_slot.Tie as tie

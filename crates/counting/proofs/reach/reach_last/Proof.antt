@@ -1,3 +1,4 @@
+-- `counting::reach::reach_last` meets its contract. The invariant: the entries are done from the index i on, and q is the entry there.
 use native.Mathlib.Omega.{arith}
 use Rattle.counting.specs.Tables.{ends}
 use Rattle.counting.proofs.Reaching.{Reaching, reach-begin, reach-here, reach-later, reached}
@@ -5,9 +6,6 @@ use lib.ListN.{length-set}
 use borrow.Author.Needs.{needs}
 use Rattle.counting.proofs.reach.reach_last.Statement.{statement}
 use Rattle.counting.proofs.reach.reach_last.Tie as tie
-use Rattle.counting.proofs.reach.reach_last.Reads as reads
-use Rattle.counting.proofs.reach.reach_last.Lts as lts
-use Rattle.counting.proofs.reach.holds.Reads as holds-reads
 
 abbrev Inv-loop : tie.InvT-loop
 Inv-loop marks at first n from base next₀ q₀ i₀ next q i = Reaching (ends marks at first from) n base next₀ i q next
@@ -15,93 +13,71 @@ Inv-loop marks at first n from base next₀ q₀ i₀ next q i = Reaching (ends 
 abbrev μ-loop : tie.MeasureT-loop
 μ-loop marks at first n from base next₀ q₀ i₀ next q i = i
 
--- src/reach.rt:42:5
 loop-holds : tie.Need-loop-holds Inv-loop μ-loop
 loop-holds c = reach-begin (omega arith)
 
--- src/reach.rt:43:9
 sub-i : tie.Need-sub-i Inv-loop μ-loop
 sub-i c = search needs
 
--- src/reach.rt:44:17
 add-k : tie.Need-add-k Inv-loop μ-loop
-add-k c = omega (arith, (c .before .loop) .inv .inside)
+add-k c = omega (arith, c .before .loop .inv .inside)
 
--- src/reach.rt:45:17
 add-d : tie.Need-add-d Inv-loop μ-loop
-add-d c = omega (arith, (c .before .loop) .inv .inside, (c .before .loop) .inv .long)
+add-d c = omega (arith, c .before .loop .inv .inside, c .before .loop .inv .long)
 
--- src/reach.rt:46:18
 shared-slice-read-holds : tie.Need-shared-slice-read-holds Inv-loop μ-loop
-shared-slice-read-holds c = omega (arith, (c .before .before .loop) .inv .inside)
+shared-slice-read-holds c = omega (arith, c .before .before .loop .inv .inside)
 
--- src/reach.rt:46:34
 add-holds : tie.Need-add-holds Inv-loop μ-loop
-add-holds c = omega (arith, (c .before .before .loop) .inv .inside)
+add-holds c = omega (arith, c .before .before .loop .inv .inside)
 
--- src/reach.rt:46:34
 add-holds-2 : tie.Need-add-holds-2 Inv-loop μ-loop
-add-holds-2 c = omega (arith, (c .before .before .loop) .inv .inside)
+add-holds-2 c = omega (arith, c .before .before .loop .inv .inside)
 
--- src/reach.rt:46:12
 holds-requires : tie.Need-holds-requires Inv-loop μ-loop
 holds-requires c κs = search needs
 
--- src/reach.rt:47:17
 cast-q : tie.Need-cast-q Inv-loop μ-loop
-cast-q c = omega (arith, (c .before .before .before .before .loop) .inv .inside)
+cast-q c = omega (arith, c .before .before .before .before .loop .inv .inside)
 
--- src/reach.rt:48:13
 mul-next : tie.Need-mul-next Inv-loop μ-loop
-mul-next c = omega (arith, (c .before .before .before .before .loop) .inv .inside, (c .before .before .before .before .loop) .inv .long)
+mul-next c = omega (arith, c .before .before .before .before .loop .inv .inside, c .before .before .before .before .loop .inv .long)
 
--- src/reach.rt:48:13
 slice-write-next : tie.Need-slice-write-next Inv-loop μ-loop
-slice-write-next c = omega (arith, (c .before .before .before .before .loop) .inv .inside, (c .before .before .before .before .loop) .inv .long)
+slice-write-next c = omega (arith, c .before .before .before .before .loop .inv .inside, c .before .before .before .before .loop .inv .long)
 
--- src/reach.rt:42:5
 loop-less : tie.Need-loop-less Inv-loop μ-loop
 loop-less c = search needs
 
--- src/reach.rt:42:5
 loop-again : tie.Need-loop-again Inv-loop μ-loop
-loop-again c = reach-here ((c .before .before .before .before .loop) .inv) ((c .before .before .before .loop-test) .taken) ((c .before .before .before .before .before .before .before .pre) .3) ((c .before .holds) .ensures) ((c .if1) .taken)
+loop-again c = reach-here (c .before .before .before .before .loop .inv) (c .before .before .before .loop-test .taken) (c .before .before .before .before .before .before .before .pre .3) (c .before .holds .ensures) (c .if1 .taken)
 
--- src/reach.rt:50:13
 mul-next-2 : tie.Need-mul-next-2 Inv-loop μ-loop
-mul-next-2 c = omega (arith, (c .before .before .before .before .loop) .inv .inside, (c .before .before .before .before .loop) .inv .long)
+mul-next-2 c = omega (arith, c .before .before .before .before .loop .inv .inside, c .before .before .before .before .loop .inv .long)
 
--- src/reach.rt:50:13
 slice-write-next-2 : tie.Need-slice-write-next-2 Inv-loop μ-loop
-slice-write-next-2 c = omega (arith, (c .before .before .before .before .loop) .inv .inside, (c .before .before .before .before .loop) .inv .long)
+slice-write-next-2 c = omega (arith, c .before .before .before .before .loop .inv .inside, c .before .before .before .before .loop .inv .long)
 
--- src/reach.rt:42:5
 loop-less-2 : tie.Need-loop-less-2 Inv-loop μ-loop
 loop-less-2 c = search needs
 
--- src/reach.rt:42:5
 loop-again-2 : tie.Need-loop-again-2 Inv-loop μ-loop
-loop-again-2 c = reach-later ((c .before .before .before .before .loop) .inv) ((c .before .before .before .loop-test) .taken) ((c .before .before .before .before .before .before .before .pre) .3) ((c .before .holds) .ensures) ((c .if1) .left)
+loop-again-2 c = reach-later (c .before .before .before .before .loop .inv) (c .before .before .before .loop-test .taken) (c .before .before .before .before .before .before .before .pre .3) (c .before .holds .ensures) (c .if1 .left)
 
--- src/reach.rt:53:13
 add-d-2 : tie.Need-add-d-2 Inv-loop μ-loop
-add-d-2 c = omega (arith, (c .before .loop) .inv .long)
+add-d-2 c = omega (arith, c .before .loop .inv .long)
 
--- src/reach.rt:54:5
 mul-next-3 : tie.Need-mul-next-3 Inv-loop μ-loop
-mul-next-3 c = omega (arith, (c .before .loop) .inv .long)
+mul-next-3 c = omega (arith, c .before .loop .inv .long)
 
--- src/reach.rt:54:5
 slice-write-next-3 : tie.Need-slice-write-next-3 Inv-loop μ-loop
-slice-write-next-3 c = omega (arith, (c .before .loop) .inv .long)
+slice-write-next-3 c = omega (arith, c .before .loop .inv .long)
 
--- src/reach.rt:28:1
 same-length : tie.Need-same-length Inv-loop μ-loop
-same-length c = simp length-set ((c .before .loop) .inv .long)
+same-length c = simp length-set (c .before .loop .inv .long)
 
--- src/reach.rt:28:1
 returns : tie.Need-returns Inv-loop μ-loop
-returns c = reached ((c .before .loop) .inv) ((c .loop-test) .left) ((c .before .before .before .before .pre) .2) ((c .before .before .before .before .pre) .3)
+returns c = reached (c .before .loop .inv) (c .loop-test .left) (c .before .before .before .before .pre .2) (c .before .before .before .before .pre .3)
 
 pub reach-last-spec : {M : Type 1} → statement M
 reach-last-spec =

@@ -1,9 +1,9 @@
+-- `counting::spans::farthest` meets its contract. The invariant: r is the largest distance from the first place to slot k.
 use Rattle.matching.specs.Laws.Cover.{far}
 use Rattle.counting.proofs.Passes.{far-more, last-slot}
-use Prim.Native.Nat.{_+_, _-_, _≤_, _<_}
+use Prim.Native.Nat.{_-_, _≤_, _<_}
 use mathlib.Core.Path.{_≡_, refl}
 use borrow.Author.Needs.{needs}
-use native.Mathlib.Omega.{arith}
 use Rattle.counting.proofs.spans.farthest.Statement.{statement}
 use Rattle.counting.proofs.spans.farthest.Tie as tie
 

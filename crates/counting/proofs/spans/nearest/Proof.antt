@@ -1,9 +1,9 @@
+-- `counting::spans::nearest` meets its contract. The invariant: r is the least distance from the first place to slot k.
 use Rattle.matching.specs.Laws.Cover.{near}
 use Rattle.counting.proofs.Passes.{near-more, last-slot}
-use Prim.Native.Nat.{_+_, _-_, _≤_, _<_}
+use Prim.Native.Nat.{_-_, _≤_, _<_}
 use mathlib.Core.Path.{_≡_, refl}
 use borrow.Author.Needs.{needs}
-use native.Mathlib.Omega.{arith}
 use Rattle.counting.proofs.spans.nearest.Statement.{statement}
 use Rattle.counting.proofs.spans.nearest.Tie as tie
 

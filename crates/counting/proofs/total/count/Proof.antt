@@ -1,3 +1,4 @@
+-- `counting::total::count` meets its contract: either way of counting does.
 use native.Mathlib.Omega.{arith}
 use mathlib.Core.Path.{sym, _∙_}
 use Rattle.matching.specs.Laws.Cover.{width}
@@ -5,53 +6,36 @@ use Rattle.counting.proofs.Passes.{free-bounds}
 use borrow.Author.Needs.{needs}
 use Rattle.counting.proofs.total.count.Statement.{statement}
 use Rattle.counting.proofs.total.count.Tie as tie
-use Rattle.counting.proofs.total.count.Reads as reads
-use Rattle.counting.proofs.total.count.Lts as lts
-use Rattle.counting.proofs.numbers.clip.Reads as clip-reads
-use Rattle.counting.proofs.numbers.widen.Reads as widen-reads
-use Rattle.counting.proofs.spans.farthest.Reads as farthest-reads
-use Rattle.counting.proofs.spans.unbound.Reads as unbound-reads
-use Rattle.counting.proofs.total.each.Reads as each-reads
-use Rattle.counting.proofs.total.whole.Reads as whole-reads
 
--- src/total.rt:76:9
 farthest-requires : tie.Need-farthest-requires
 farthest-requires c κs = search needs
 
--- src/total.rt:77:8
 unbound-requires : tie.Need-unbound-requires
 unbound-requires c κs = search needs
 
--- src/total.rt:78:9
 whole-requires : tie.Need-whole-requires
-whole-requires c κs = let b = free-bounds ((c .before .before .before .before .before .args) .f) ((c .before .before .before .before .before .args) .t .now) (sym ((c .before .unbound) .ensures) ∙ (c .if1) .taken) in ((c .before .before .before .before .before .pre) .0, ((c .before .before .before .before .before .pre) .1, (b .0, b .1, (c .before .before .farthest) .ensures .0)))
+whole-requires c κs = let b = free-bounds (c .before .before .before .before .before .args .f) (c .before .before .before .before .before .args .t .now) (sym (c .before .unbound .ensures) ∙ c .if1 .taken) in (c .before .before .before .before .before .pre .0, (c .before .before .before .before .before .pre .1, (b .0, b .1, c .before .before .farthest .ensures .0)))
 
--- src/total.rt:78:9
 returns : tie.Need-returns
 returns c = search needs
 
--- src/total.rt:80:9
 widen-requires : tie.Need-widen-requires
 widen-requires c κs = search needs
 
--- src/total.rt:81:39
 add-clip : tie.Need-add-clip
 add-clip c = search needs
 
--- src/total.rt:81:28
 clip-requires : tie.Need-clip-requires
 clip-requires c κs = search needs
 
--- src/total.rt:81:5
 each-requires : tie.Need-each-requires
 unfolding width
-each-requires c κs = let far = (c .before .before .before .before .farthest) .ensures in
-    let most = (c .before .widen) .ensures in
-    let e = (c .clip) .ensures in
-    let ok = (c .before .before .before .before .before .before .before .pre) .0 in
-    (ok, ((c .before .before .before .before .before .before .before .pre) .1, (far .0, omega (arith, e, far .0, most .0), omega (arith, e, far .0, most .0, ok .pattern .least, ok .pattern .ordered), omega (arith, e, far .1))))
+each-requires c κs = let far = c .before .before .before .before .farthest .ensures in
+    let most = c .before .widen .ensures in
+    let e = c .clip .ensures in
+    let ok = c .before .before .before .before .before .before .before .pre .0 in
+    (ok, (c .before .before .before .before .before .before .before .pre .1, (far .0, omega (arith, e, far .0, most .0), omega (arith, e, far .0, most .0, ok .pattern .least, ok .pattern .ordered), omega (arith, e, far .1))))
 
--- src/total.rt:72:1
 returns-2 : tie.Need-returns-2
 returns-2 c = search needs
 

@@ -1,8 +1,9 @@
+-- `counting::total::each` meets its contract. The invariant: the sum is the number of the occurrences with a first place passed.
 use Rattle.matching.specs.Laws.Sums.{total}
 use Rattle.matching.specs.Laws.Cover.{starting}
 use Rattle.counting.specs.Numbers.{val, value}
 use Rattle.counting.proofs.Passes.{start-take, start-skip, add-sum, add-fits, skip-sum, all-sum}
-use Prim.Native.Nat.{ℕ, _+_, _-_, _≤_, _<_}
+use Prim.Native.Nat.{ℕ, _-_, _≤_}
 use mathlib.Core.Path.{_≡_, refl, _∙_}
 use native.Mathlib.Omega.{arith}
 use lib.ListN.{length, length-replicate}

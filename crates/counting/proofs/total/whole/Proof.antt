@@ -1,6 +1,6 @@
+-- `counting::total::whole` meets its contract: the first sum of the first slot's row is the number of all occurrences.
 use Rattle.counting.specs.Numbers.{val}
 use Rattle.counting.proofs.Passes.{whole-tally, room-new}
-use Prim.Native.Nat.{ℕ}
 use native.Mathlib.Omega.{arith}
 use lib.ListN.{length}
 use borrow.Author.Needs.{needs}

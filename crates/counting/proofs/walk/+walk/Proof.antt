@@ -1,3 +1,5 @@
+-- `counting::walk::walk`, which calls itself, meets its contract. Its measure is the slots that are left.
+-- The loop's invariant: the rows that start at the indexes passed stand in the list.
 use Prim.Native.Nat.{ℕ, _+_, _-_, _<_}
 use mathlib.Core.Path.{_≡_, refl, _∙_}
 use native.Mathlib.Omega.{arith}
@@ -32,7 +34,6 @@ walk-Inv-loop low high next m first j x y row done list₀ rows₀ q₀ list row
 abbrev walk-μ-loop : walk-lts.MeasureT-loop
 walk-μ-loop low high next m first j x y row done list₀ rows₀ q₀ list rows q = y + 1 - q
 
--- src/walk.rt:89:9
 walk-entry-requires : (t : ℕ) → walk-lts.Need-entry-requires (
   entry-reads.Asked,
   entry-reads.Learnt,
@@ -45,9 +46,8 @@ walk-entry-requires : (t : ℕ) → walk-lts.Need-entry-requires (
   walk-below t,
   walk.Post,
 ) (walk-at t) walk.Post walk-Inv-loop walk-μ-loop
-walk-entry-requires t c κs = let w = (c .before .before .before .before .pre) .1 in let slot = w .slot in let few = w .leads .few in (omega arith, omega (arith, w .start, w .leads .inside _ slot), w .leads .long)
+walk-entry-requires t c κs = let w = c .before .before .before .before .pre .1 in let slot = w .slot in let few = w .leads .few in (omega arith, omega (arith, w .start, w .leads .inside _ slot), w .leads .long)
 
--- src/walk.rt:90:5
 walk-loop-holds : (t : ℕ) → walk-lts.Need-loop-holds (
   entry-reads.Asked,
   entry-reads.Learnt,
@@ -60,9 +60,8 @@ walk-loop-holds : (t : ℕ) → walk-lts.Need-loop-holds (
   walk-below t,
   walk.Post,
 ) (walk-at t) walk.Post walk-Inv-loop walk-μ-loop
-walk-loop-holds t c = (refl, λ w. going-begin w ((c .entry) .ensures .0))
+walk-loop-holds t c = (refl, λ w. going-begin w (c .entry .ensures .0))
 
--- src/walk.rt:91:37
 walk-add-placed : (t : ℕ) → walk-lts.Need-add-placed (
   entry-reads.Asked,
   entry-reads.Learnt,
@@ -75,9 +74,8 @@ walk-add-placed : (t : ℕ) → walk-lts.Need-add-placed (
   walk-below t,
   walk.Post,
 ) (walk-at t) walk.Post walk-Inv-loop walk-μ-loop
-walk-add-placed t c = let w = (c .before .before .before .before .before .before .before .pre) .1 in let g = (c .before .loop) .inv .1 w in let y = (c .loop-test) .taken in let slot = w .slot in let few = w .leads .few in let small = going-small g y in omega arith
+walk-add-placed t c = let w = c .before .before .before .before .before .before .before .pre .1 in let g = c .before .loop .inv .1 w in let y = c .loop-test .taken in let slot = w .slot in let few = w .leads .few in let small = going-small g y in omega arith
 
--- src/walk.rt:91:37
 walk-add-placed-2 : (t : ℕ) → walk-lts.Need-add-placed-2 (
   entry-reads.Asked,
   entry-reads.Learnt,
@@ -90,9 +88,8 @@ walk-add-placed-2 : (t : ℕ) → walk-lts.Need-add-placed-2 (
   walk-below t,
   walk.Post,
 ) (walk-at t) walk.Post walk-Inv-loop walk-μ-loop
-walk-add-placed-2 t c = let w = (c .before .before .before .before .before .before .before .pre) .1 in let g = (c .before .loop) .inv .1 w in let y = (c .loop-test) .taken in let slot = w .slot in let few = w .leads .few in let small = going-small g y in omega arith
+walk-add-placed-2 t c = let w = c .before .before .before .before .before .before .before .pre .1 in let g = c .before .loop .inv .1 w in let y = c .loop-test .taken in let slot = w .slot in let few = w .leads .few in let small = going-small g y in omega arith
 
--- src/walk.rt:91:13
 walk-placed-requires : (t : ℕ) → walk-lts.Need-placed-requires (
   entry-reads.Asked,
   entry-reads.Learnt,
@@ -105,9 +102,8 @@ walk-placed-requires : (t : ℕ) → walk-lts.Need-placed-requires (
   walk-below t,
   walk.Post,
 ) (walk-at t) walk.Post walk-Inv-loop walk-μ-loop
-walk-placed-requires t c κs = let w = (c .before .before .before .before .before .before .before .pre) .1 in let g = (c .before .loop) .inv .1 w in let y = (c .loop-test) .taken in let slot = w .slot in let few = w .leads .few in let small = going-small g y in (omega arith, omega arith)
+walk-placed-requires t c κs = let w = c .before .before .before .before .before .before .before .pre .1 in let g = c .before .loop .inv .1 w in let y = c .loop-test .taken in let slot = w .slot in let few = w .leads .few in let small = going-small g y in (omega arith, omega arith)
 
--- src/walk.rt:92:12
 walk-add-if1 : (t : ℕ) → walk-lts.Need-add-if1 (
   entry-reads.Asked,
   entry-reads.Learnt,
@@ -120,9 +116,8 @@ walk-add-if1 : (t : ℕ) → walk-lts.Need-add-if1 (
   walk-below t,
   walk.Post,
 ) (walk-at t) walk.Post walk-Inv-loop walk-μ-loop
-walk-add-if1 t c = let w = (c .before .before .before .before .before .before .before .before .pre) .1 in let g = (c .before .before .loop) .inv .1 w in let y = (c .before .loop-test) .taken in let slot = w .slot in let few = w .leads .few in omega arith
+walk-add-if1 t c = let w = c .before .before .before .before .before .before .before .before .pre .1 in let g = c .before .before .loop .inv .1 w in let y = c .before .loop-test .taken in let slot = w .slot in let few = w .leads .few in omega arith
 
--- src/walk.rt:93:13
 walk-put-at-requires : (t : ℕ) → walk-lts.Need-put-at-requires (
   entry-reads.Asked,
   entry-reads.Learnt,
@@ -135,9 +130,8 @@ walk-put-at-requires : (t : ℕ) → walk-lts.Need-put-at-requires (
   walk-below t,
   walk.Post,
 ) (walk-at t) walk.Post walk-Inv-loop walk-μ-loop
-walk-put-at-requires t c κs = let w = (c .before .before .before .before .before .before .before .before .before .before .pre) .1 in let g = (c .before .before .before .before .loop) .inv .1 w in let y = (c .before .before .before .loop-test) .taken in let slot = w .slot in let few = w .leads .few in let room = going-room g y ((c .before .if1) .taken) in (few, omega (arith, room .0, (c .before .before .before .before .loop) .inv .0))
+walk-put-at-requires t c κs = let w = c .before .before .before .before .before .before .before .before .before .before .pre .1 in let g = c .before .before .before .before .loop .inv .1 w in let y = c .before .before .before .loop-test .taken in let slot = w .slot in let few = w .leads .few in let room = going-room g y (c .before .if1 .taken) in (few, omega (arith, room .0, c .before .before .before .before .loop .inv .0))
 
--- src/walk.rt:94:13
 walk-add-rows : (t : ℕ) → walk-lts.Need-add-rows (
   entry-reads.Asked,
   entry-reads.Learnt,
@@ -150,9 +144,8 @@ walk-add-rows : (t : ℕ) → walk-lts.Need-add-rows (
   walk-below t,
   walk.Post,
 ) (walk-at t) walk.Post walk-Inv-loop walk-μ-loop
-walk-add-rows t c = let w = (c .before .before .before .before .before .before .before .before .before .before .before .before .before .pre) .1 in let g = (c .before .before .before .before .before .before .before .loop) .inv .1 w in let y = (c .before .before .before .before .before .before .loop-test) .taken in let slot = w .slot in let few = w .leads .few in let room = going-room g y ((c .before .before .before .before .if1) .taken) in omega (arith, room .1)
+walk-add-rows t c = let w = c .before .before .before .before .before .before .before .before .before .before .before .before .before .pre .1 in let g = c .before .before .before .before .before .before .before .loop .inv .1 w in let y = c .before .before .before .before .before .before .loop-test .taken in let slot = w .slot in let few = w .leads .few in let room = going-room g y (c .before .before .before .before .if1 .taken) in omega (arith, room .1)
 
--- src/walk.rt:95:32
 walk-add-entry : (t : ℕ) → walk-lts.Need-add-entry (
   entry-reads.Asked,
   entry-reads.Learnt,
@@ -165,9 +158,8 @@ walk-add-entry : (t : ℕ) → walk-lts.Need-add-entry (
   walk-below t,
   walk.Post,
 ) (walk-at t) walk.Post walk-Inv-loop walk-μ-loop
-walk-add-entry t c = let w = (c .before .before .before .before .before .before .before .before .before .before .before .before .before .pre) .1 in let g = (c .before .before .before .before .before .before .before .loop) .inv .1 w in let y = (c .before .before .before .before .before .before .loop-test) .taken in let slot = w .slot in let few = w .leads .few in let small = going-small g y in omega arith
+walk-add-entry t c = let w = c .before .before .before .before .before .before .before .before .before .before .before .before .before .pre .1 in let g = c .before .before .before .before .before .before .before .loop .inv .1 w in let y = c .before .before .before .before .before .before .loop-test .taken in let slot = w .slot in let few = w .leads .few in let small = going-small g y in omega arith
 
--- src/walk.rt:95:13
 walk-entry-requires-2 : (t : ℕ) → walk-lts.Need-entry-requires-2 (
   entry-reads.Asked,
   entry-reads.Learnt,
@@ -180,9 +172,8 @@ walk-entry-requires-2 : (t : ℕ) → walk-lts.Need-entry-requires-2 (
   walk-below t,
   walk.Post,
 ) (walk-at t) walk.Post walk-Inv-loop walk-μ-loop
-walk-entry-requires-2 t c κs = let w = (c .before .before .before .before .before .before .before .before .before .before .before .before .before .pre) .1 in let g = (c .before .before .before .before .before .before .before .loop) .inv .1 w in let y = (c .before .before .before .before .before .before .loop-test) .taken in let slot = w .slot in let few = w .leads .few in let small = going-small g y in (omega arith, omega arith, w .leads .long)
+walk-entry-requires-2 t c κs = let w = c .before .before .before .before .before .before .before .before .before .before .before .before .before .pre .1 in let g = c .before .before .before .before .before .before .before .loop .inv .1 w in let y = c .before .before .before .before .before .before .loop-test .taken in let slot = w .slot in let few = w .leads .few in let small = going-small g y in (omega arith, omega arith, w .leads .long)
 
--- src/walk.rt:90:5
 walk-loop-less : (t : ℕ) → walk-lts.Need-loop-less (
   entry-reads.Asked,
   entry-reads.Learnt,
@@ -195,9 +186,8 @@ walk-loop-less : (t : ℕ) → walk-lts.Need-loop-less (
   walk-below t,
   walk.Post,
 ) (walk-at t) walk.Post walk-Inv-loop walk-μ-loop
-walk-loop-less t c = let w = (c .before .before .before .before .before .before .before .before .before .before .before .before .before .before .pre) .1 in let g = (c .before .before .before .before .before .before .before .before .loop) .inv .1 w in let y = (c .before .before .before .before .before .before .before .loop-test) .taken in let slot = w .slot in let few = w .leads .few in omega (arith, going-on g y ((c .entry2) .ensures .0))
+walk-loop-less t c = let w = c .before .before .before .before .before .before .before .before .before .before .before .before .before .before .pre .1 in let g = c .before .before .before .before .before .before .before .before .loop .inv .1 w in let y = c .before .before .before .before .before .before .before .loop-test .taken in let slot = w .slot in let few = w .leads .few in omega (arith, going-on g y (c .entry2 .ensures .0))
 
--- src/walk.rt:90:5
 walk-loop-again : (t : ℕ) → walk-lts.Need-loop-again (
   entry-reads.Asked,
   entry-reads.Learnt,
@@ -210,9 +200,8 @@ walk-loop-again : (t : ℕ) → walk-lts.Need-loop-again (
   walk-below t,
   walk.Post,
 ) (walk-at t) walk.Post walk-Inv-loop walk-μ-loop
-walk-loop-again t c = let y = (c .before .before .before .before .before .before .before .loop-test) .taken in ((c .before .before .before .put-at) .kept .0 ∙ (c .before .before .before .before .before .before .before .before .loop) .inv .0, λ w. let few = w .leads .few in let slot = w .slot in let row : length ((c .before .before .before .before .before .before .before .before .before .before .before .before .before .before .args) .row) ≡ 16 = ((c .before .before .before .before .before .before .before .before .before .before .before .before .before .before .good) .1 .1 .1 .1 .1 .1 .1 .1 .0 .1 .0 .1) in let long : (c .before .before .before .before .before .before .before .before .before .before .before .before .before .before .args) .j < length ((c .before .before .before .before .before .before .before .before .before .before .before .before .before .before .args) .row) = omega arith in going-leaf ((c .before .before .before .before .before .before .before .before .loop) .inv .1 w) y ((c .entry2) .ensures .0) long ((c .before .before .before .before .before .before .placed) .ensures) ((c .before .before .before .before .before .if1) .taken) ((c .before .before .before .put-at) .ensures))
+walk-loop-again t c = let y = c .before .before .before .before .before .before .before .loop-test .taken in (c .before .before .before .put-at .kept .0 ∙ c .before .before .before .before .before .before .before .before .loop .inv .0, λ w. let few = w .leads .few in let slot = w .slot in let row : length (c .before .before .before .before .before .before .before .before .before .before .before .before .before .before .args .row) ≡ 16 = (c .before .before .before .before .before .before .before .before .before .before .before .before .before .before .good .1 .1 .1 .1 .1 .1 .1 .1 .0 .1 .0 .1) in let long : c .before .before .before .before .before .before .before .before .before .before .before .before .before .before .args .j < length (c .before .before .before .before .before .before .before .before .before .before .before .before .before .before .args .row) = omega arith in going-leaf (c .before .before .before .before .before .before .before .before .loop .inv .1 w) y (c .entry2 .ensures .0) long (c .before .before .before .before .before .before .placed .ensures) (c .before .before .before .before .before .if1 .taken) (c .before .before .before .put-at .ensures))
 
--- src/walk.rt:97:21
 walk-add-k : (t : ℕ) → walk-lts.Need-add-k (
   entry-reads.Asked,
   entry-reads.Learnt,
@@ -225,9 +214,8 @@ walk-add-k : (t : ℕ) → walk-lts.Need-add-k (
   walk-below t,
   walk.Post,
 ) (walk-at t) walk.Post walk-Inv-loop walk-μ-loop
-walk-add-k t c = let w = (c .before .before .before .before .before .before .before .before .before .pre) .1 in let g = (c .before .before .before .loop) .inv .1 w in let y = (c .before .before .loop-test) .taken in let slot = w .slot in let few = w .leads .few in omega arith
+walk-add-k t c = let w = c .before .before .before .before .before .before .before .before .before .pre .1 in let g = c .before .before .before .loop .inv .1 w in let y = c .before .before .loop-test .taken in let slot = w .slot in let few = w .leads .few in omega arith
 
--- src/walk.rt:98:31
 walk-mul-widen : (t : ℕ) → walk-lts.Need-mul-widen (
   entry-reads.Asked,
   entry-reads.Learnt,
@@ -240,9 +228,8 @@ walk-mul-widen : (t : ℕ) → walk-lts.Need-mul-widen (
   walk-below t,
   walk.Post,
 ) (walk-at t) walk.Post walk-Inv-loop walk-μ-loop
-walk-mul-widen t c = let w = (c .before .before .before .before .before .before .before .before .before .pre) .1 in let g = (c .before .before .before .loop) .inv .1 w in let y = (c .before .before .loop-test) .taken in let slot = w .slot in let few = w .leads .few in let inner : (c .before .before .before .before .before .before .before .before .before .args) .j + 1 < (c .before .before .before .before .before .before .before .before .before .args) .m = omega (arith, (c .if1) .left) in let lows = w .leads .lows in omega arith
+walk-mul-widen t c = let w = c .before .before .before .before .before .before .before .before .before .pre .1 in let g = c .before .before .before .loop .inv .1 w in let y = c .before .before .loop-test .taken in let slot = w .slot in let few = w .leads .few in let inner : c .before .before .before .before .before .before .before .before .before .args .j + 1 < c .before .before .before .before .before .before .before .before .before .args .m = omega (arith, c .if1 .left) in let lows = w .leads .lows in omega arith
 
--- src/walk.rt:98:31
 walk-shared-slice-read-widen : (t : ℕ) → walk-lts.Need-shared-slice-read-widen (
   entry-reads.Asked,
   entry-reads.Learnt,
@@ -255,9 +242,8 @@ walk-shared-slice-read-widen : (t : ℕ) → walk-lts.Need-shared-slice-read-wid
   walk-below t,
   walk.Post,
 ) (walk-at t) walk.Post walk-Inv-loop walk-μ-loop
-walk-shared-slice-read-widen t c = let w = (c .before .before .before .before .before .before .before .before .before .before .pre) .1 in let g = (c .before .before .before .before .loop) .inv .1 w in let y = (c .before .before .before .loop-test) .taken in let slot = w .slot in let few = w .leads .few in let inner : (c .before .before .before .before .before .before .before .before .before .before .args) .j + 1 < (c .before .before .before .before .before .before .before .before .before .before .args) .m = omega (arith, (c .before .if1) .left) in let lows = w .leads .lows in omega arith
+walk-shared-slice-read-widen t c = let w = c .before .before .before .before .before .before .before .before .before .before .pre .1 in let g = c .before .before .before .before .loop .inv .1 w in let y = c .before .before .before .loop-test .taken in let slot = w .slot in let few = w .leads .few in let inner : c .before .before .before .before .before .before .before .before .before .before .args .j + 1 < c .before .before .before .before .before .before .before .before .before .before .args .m = omega (arith, c .before .if1 .left) in let lows = w .leads .lows in omega arith
 
--- src/walk.rt:98:25
 walk-widen-requires : (t : ℕ) → walk-lts.Need-widen-requires (
   entry-reads.Asked,
   entry-reads.Learnt,
@@ -272,7 +258,6 @@ walk-widen-requires : (t : ℕ) → walk-lts.Need-widen-requires (
 ) (walk-at t) walk.Post walk-Inv-loop walk-μ-loop
 walk-widen-requires t c κs = search needs
 
--- src/walk.rt:98:21
 walk-add-a : (t : ℕ) → walk-lts.Need-add-a (
   entry-reads.Asked,
   entry-reads.Learnt,
@@ -285,9 +270,8 @@ walk-add-a : (t : ℕ) → walk-lts.Need-add-a (
   walk-below t,
   walk.Post,
 ) (walk-at t) walk.Post walk-Inv-loop walk-μ-loop
-walk-add-a t c = let w = (c .before .before .before .before .before .before .before .before .before .before .before .pre) .1 in let g = (c .before .before .before .before .before .loop) .inv .1 w in let y = (c .before .before .before .before .loop-test) .taken in let slot = w .slot in let few = w .leads .few in let small = going-small g y in omega (arith, (c .widen) .ensures .1)
+walk-add-a t c = let w = c .before .before .before .before .before .before .before .before .before .before .before .pre .1 in let g = c .before .before .before .before .before .loop .inv .1 w in let y = c .before .before .before .before .loop-test .taken in let slot = w .slot in let few = w .leads .few in let small = going-small g y in omega (arith, c .widen .ensures .1)
 
--- src/walk.rt:98:21
 walk-add-a-2 : (t : ℕ) → walk-lts.Need-add-a-2 (
   entry-reads.Asked,
   entry-reads.Learnt,
@@ -300,9 +284,8 @@ walk-add-a-2 : (t : ℕ) → walk-lts.Need-add-a-2 (
   walk-below t,
   walk.Post,
 ) (walk-at t) walk.Post walk-Inv-loop walk-μ-loop
-walk-add-a-2 t c = let w = (c .before .before .before .before .before .before .before .before .before .before .before .pre) .1 in let g = (c .before .before .before .before .before .loop) .inv .1 w in let y = (c .before .before .before .before .loop-test) .taken in let slot = w .slot in let few = w .leads .few in let small = going-small g y in omega (arith, (c .widen) .ensures .1)
+walk-add-a-2 t c = let w = c .before .before .before .before .before .before .before .before .before .before .before .pre .1 in let g = c .before .before .before .before .before .loop .inv .1 w in let y = c .before .before .before .before .loop-test .taken in let slot = w .slot in let few = w .leads .few in let small = going-small g y in omega (arith, c .widen .ensures .1)
 
--- src/walk.rt:99:31
 walk-mul-widen-2 : (t : ℕ) → walk-lts.Need-mul-widen-2 (
   entry-reads.Asked,
   entry-reads.Learnt,
@@ -315,9 +298,8 @@ walk-mul-widen-2 : (t : ℕ) → walk-lts.Need-mul-widen-2 (
   walk-below t,
   walk.Post,
 ) (walk-at t) walk.Post walk-Inv-loop walk-μ-loop
-walk-mul-widen-2 t c = let w = (c .before .before .before .before .before .before .before .before .before .before .before .pre) .1 in let g = (c .before .before .before .before .before .loop) .inv .1 w in let y = (c .before .before .before .before .loop-test) .taken in let slot = w .slot in let few = w .leads .few in let inner : (c .before .before .before .before .before .before .before .before .before .before .before .args) .j + 1 < (c .before .before .before .before .before .before .before .before .before .before .before .args) .m = omega (arith, (c .before .before .if1) .left) in let highs = w .leads .highs in omega arith
+walk-mul-widen-2 t c = let w = c .before .before .before .before .before .before .before .before .before .before .before .pre .1 in let g = c .before .before .before .before .before .loop .inv .1 w in let y = c .before .before .before .before .loop-test .taken in let slot = w .slot in let few = w .leads .few in let inner : c .before .before .before .before .before .before .before .before .before .before .before .args .j + 1 < c .before .before .before .before .before .before .before .before .before .before .before .args .m = omega (arith, c .before .before .if1 .left) in let highs = w .leads .highs in omega arith
 
--- src/walk.rt:99:31
 walk-shared-slice-read-widen-2 : (t : ℕ) → walk-lts.Need-shared-slice-read-widen-2 (
   entry-reads.Asked,
   entry-reads.Learnt,
@@ -330,9 +312,8 @@ walk-shared-slice-read-widen-2 : (t : ℕ) → walk-lts.Need-shared-slice-read-w
   walk-below t,
   walk.Post,
 ) (walk-at t) walk.Post walk-Inv-loop walk-μ-loop
-walk-shared-slice-read-widen-2 t c = let w = (c .before .before .before .before .before .before .before .before .before .before .before .before .pre) .1 in let g = (c .before .before .before .before .before .before .loop) .inv .1 w in let y = (c .before .before .before .before .before .loop-test) .taken in let slot = w .slot in let few = w .leads .few in let inner : (c .before .before .before .before .before .before .before .before .before .before .before .before .args) .j + 1 < (c .before .before .before .before .before .before .before .before .before .before .before .before .args) .m = omega (arith, (c .before .before .before .if1) .left) in let highs = w .leads .highs in omega arith
+walk-shared-slice-read-widen-2 t c = let w = c .before .before .before .before .before .before .before .before .before .before .before .before .pre .1 in let g = c .before .before .before .before .before .before .loop .inv .1 w in let y = c .before .before .before .before .before .loop-test .taken in let slot = w .slot in let few = w .leads .few in let inner : c .before .before .before .before .before .before .before .before .before .before .before .before .args .j + 1 < c .before .before .before .before .before .before .before .before .before .before .before .before .args .m = omega (arith, c .before .before .before .if1 .left) in let highs = w .leads .highs in omega arith
 
--- src/walk.rt:99:25
 walk-widen-requires-2 : (t : ℕ) → walk-lts.Need-widen-requires-2 (
   entry-reads.Asked,
   entry-reads.Learnt,
@@ -347,7 +328,6 @@ walk-widen-requires-2 : (t : ℕ) → walk-lts.Need-widen-requires-2 (
 ) (walk-at t) walk.Post walk-Inv-loop walk-μ-loop
 walk-widen-requires-2 t c κs = search needs
 
--- src/walk.rt:99:21
 walk-add-b : (t : ℕ) → walk-lts.Need-add-b (
   entry-reads.Asked,
   entry-reads.Learnt,
@@ -360,9 +340,8 @@ walk-add-b : (t : ℕ) → walk-lts.Need-add-b (
   walk-below t,
   walk.Post,
 ) (walk-at t) walk.Post walk-Inv-loop walk-μ-loop
-walk-add-b t c = let w = (c .before .before .before .before .before .before .before .before .before .before .before .before .before .pre) .1 in let g = (c .before .before .before .before .before .before .before .loop) .inv .1 w in let y = (c .before .before .before .before .before .before .loop-test) .taken in let slot = w .slot in let few = w .leads .few in let small = going-small g y in omega (arith, (c .widen2) .ensures .1)
+walk-add-b t c = let w = c .before .before .before .before .before .before .before .before .before .before .before .before .before .pre .1 in let g = c .before .before .before .before .before .before .before .loop .inv .1 w in let y = c .before .before .before .before .before .before .loop-test .taken in let slot = w .slot in let few = w .leads .few in let small = going-small g y in omega (arith, c .widen2 .ensures .1)
 
--- src/walk.rt:99:21
 walk-add-b-2 : (t : ℕ) → walk-lts.Need-add-b-2 (
   entry-reads.Asked,
   entry-reads.Learnt,
@@ -375,9 +354,8 @@ walk-add-b-2 : (t : ℕ) → walk-lts.Need-add-b-2 (
   walk-below t,
   walk.Post,
 ) (walk-at t) walk.Post walk-Inv-loop walk-μ-loop
-walk-add-b-2 t c = let w = (c .before .before .before .before .before .before .before .before .before .before .before .before .before .pre) .1 in let g = (c .before .before .before .before .before .before .before .loop) .inv .1 w in let y = (c .before .before .before .before .before .before .loop-test) .taken in let slot = w .slot in let few = w .leads .few in let small = going-small g y in omega (arith, (c .widen2) .ensures .1)
+walk-add-b-2 t c = let w = c .before .before .before .before .before .before .before .before .before .before .before .before .before .pre .1 in let g = c .before .before .before .before .before .before .before .loop .inv .1 w in let y = c .before .before .before .before .before .before .loop-test .taken in let slot = w .slot in let few = w .leads .few in let small = going-small g y in omega (arith, c .widen2 .ensures .1)
 
--- src/walk.rt:100:13
 walk-walk-requires : (t : ℕ) → walk-lts.Need-walk-requires (
   entry-reads.Asked,
   entry-reads.Learnt,
@@ -390,9 +368,8 @@ walk-walk-requires : (t : ℕ) → walk-lts.Need-walk-requires (
   walk-below t,
   walk.Post,
 ) (walk-at t) walk.Post walk-Inv-loop walk-μ-loop
-walk-walk-requires t c κs = let w = (c .before .before .before .before .before .before .before .before .before .before .before .before .before .before .pre) .1 in let g = (c .before .before .before .before .before .before .before .before .loop) .inv .1 w in let y = (c .before .before .before .before .before .before .before .loop-test) .taken in let slot = w .slot in let few = w .leads .few in let inner : (c .before .before .before .before .before .before .before .before .before .before .before .before .before .before .args) .j + 1 < (c .before .before .before .before .before .before .before .before .before .before .before .before .before .before .args) .m = omega (arith, (c .before .before .before .before .before .if1) .left) in let ea : (c .before .before .before .before .before .before .before .before .loop) .q + (c .before .before .before .widen) .result + 1 ≡ (c .before .before .before .before .before .before .before .before .loop) .q + getD ((c .before .before .before .before .before .before .before .before .before .before .before .before .before .before .args) .low .now) ((c .before .before .before .before .before .before .before .before .before .before .before .before .before .before .args) .j + 1) 0 + 1 = omega (arith, (c .before .before .before .widen) .ensures .0) in let eb : (c .before .before .before .before .before .before .before .before .loop) .q + (c .before .widen2) .result + 1 ≡ (c .before .before .before .before .before .before .before .before .loop) .q + getD ((c .before .before .before .before .before .before .before .before .before .before .before .before .before .before .args) .high .now) ((c .before .before .before .before .before .before .before .before .before .before .before .before .before .before .args) .j + 1) 0 + 1 = omega (arith, (c .before .widen2) .ensures .0) in (omega (arith, (c .before .before .before .before .before .before .before .before .before .before .before .before .before .before .pre) .0), child g y inner ea eb ((c .before .before .before .before .before .before .before .before .loop) .inv .0))
+walk-walk-requires t c κs = let w = c .before .before .before .before .before .before .before .before .before .before .before .before .before .before .pre .1 in let g = c .before .before .before .before .before .before .before .before .loop .inv .1 w in let y = c .before .before .before .before .before .before .before .loop-test .taken in let slot = w .slot in let few = w .leads .few in let inner : c .before .before .before .before .before .before .before .before .before .before .before .before .before .before .args .j + 1 < c .before .before .before .before .before .before .before .before .before .before .before .before .before .before .args .m = omega (arith, c .before .before .before .before .before .if1 .left) in let ea : c .before .before .before .before .before .before .before .before .loop .q + c .before .before .before .widen .result + 1 ≡ c .before .before .before .before .before .before .before .before .loop .q + getD (c .before .before .before .before .before .before .before .before .before .before .before .before .before .before .args .low .now) (c .before .before .before .before .before .before .before .before .before .before .before .before .before .before .args .j + 1) 0 + 1 = omega (arith, c .before .before .before .widen .ensures .0) in let eb : c .before .before .before .before .before .before .before .before .loop .q + c .before .widen2 .result + 1 ≡ c .before .before .before .before .before .before .before .before .loop .q + getD (c .before .before .before .before .before .before .before .before .before .before .before .before .before .before .args .high .now) (c .before .before .before .before .before .before .before .before .before .before .before .before .before .before .args .j + 1) 0 + 1 = omega (arith, c .before .widen2 .ensures .0) in (omega (arith, c .before .before .before .before .before .before .before .before .before .before .before .before .before .before .pre .0), child g y inner ea eb (c .before .before .before .before .before .before .before .before .loop .inv .0))
 
--- src/walk.rt:101:32
 walk-add-entry-2 : (t : ℕ) → walk-lts.Need-add-entry-2 (
   entry-reads.Asked,
   entry-reads.Learnt,
@@ -405,9 +382,8 @@ walk-add-entry-2 : (t : ℕ) → walk-lts.Need-add-entry-2 (
   walk-below t,
   walk.Post,
 ) (walk-at t) walk.Post walk-Inv-loop walk-μ-loop
-walk-add-entry-2 t c = let w = (c .before .before .before .before .before .before .before .before .before .before .before .before .before .before .before .before .before .pre) .1 in let g = (c .before .before .before .before .before .before .before .before .before .before .before .loop) .inv .1 w in let y = (c .before .before .before .before .before .before .before .before .before .before .loop-test) .taken in let slot = w .slot in let few = w .leads .few in let small = going-small g y in omega arith
+walk-add-entry-2 t c = let w = c .before .before .before .before .before .before .before .before .before .before .before .before .before .before .before .before .before .pre .1 in let g = c .before .before .before .before .before .before .before .before .before .before .before .loop .inv .1 w in let y = c .before .before .before .before .before .before .before .before .before .before .loop-test .taken in let slot = w .slot in let few = w .leads .few in let small = going-small g y in omega arith
 
--- src/walk.rt:101:13
 walk-entry-requires-3 : (t : ℕ) → walk-lts.Need-entry-requires-3 (
   entry-reads.Asked,
   entry-reads.Learnt,
@@ -420,9 +396,8 @@ walk-entry-requires-3 : (t : ℕ) → walk-lts.Need-entry-requires-3 (
   walk-below t,
   walk.Post,
 ) (walk-at t) walk.Post walk-Inv-loop walk-μ-loop
-walk-entry-requires-3 t c κs = let w = (c .before .before .before .before .before .before .before .before .before .before .before .before .before .before .before .before .before .pre) .1 in let g = (c .before .before .before .before .before .before .before .before .before .before .before .loop) .inv .1 w in let y = (c .before .before .before .before .before .before .before .before .before .before .loop-test) .taken in let slot = w .slot in let few = w .leads .few in let small = going-small g y in (omega arith, omega arith, w .leads .long)
+walk-entry-requires-3 t c κs = let w = c .before .before .before .before .before .before .before .before .before .before .before .before .before .before .before .before .before .pre .1 in let g = c .before .before .before .before .before .before .before .before .before .before .before .loop .inv .1 w in let y = c .before .before .before .before .before .before .before .before .before .before .loop-test .taken in let slot = w .slot in let few = w .leads .few in let small = going-small g y in (omega arith, omega arith, w .leads .long)
 
--- src/walk.rt:90:5
 walk-loop-less-2 : (t : ℕ) → walk-lts.Need-loop-less-2 (
   entry-reads.Asked,
   entry-reads.Learnt,
@@ -435,9 +410,8 @@ walk-loop-less-2 : (t : ℕ) → walk-lts.Need-loop-less-2 (
   walk-below t,
   walk.Post,
 ) (walk-at t) walk.Post walk-Inv-loop walk-μ-loop
-walk-loop-less-2 t c = let w = (c .before .before .before .before .before .before .before .before .before .before .before .before .before .before .before .before .before .before .pre) .1 in let g = (c .before .before .before .before .before .before .before .before .before .before .before .before .loop) .inv .1 w in let y = (c .before .before .before .before .before .before .before .before .before .before .before .loop-test) .taken in let slot = w .slot in let few = w .leads .few in omega (arith, going-on g y ((c .entry3) .ensures .0))
+walk-loop-less-2 t c = let w = c .before .before .before .before .before .before .before .before .before .before .before .before .before .before .before .before .before .before .pre .1 in let g = c .before .before .before .before .before .before .before .before .before .before .before .before .loop .inv .1 w in let y = c .before .before .before .before .before .before .before .before .before .before .before .loop-test .taken in let slot = w .slot in let few = w .leads .few in omega (arith, going-on g y (c .entry3 .ensures .0))
 
--- src/walk.rt:90:5
 walk-loop-again-2 : (t : ℕ) → walk-lts.Need-loop-again-2 (
   entry-reads.Asked,
   entry-reads.Learnt,
@@ -450,9 +424,8 @@ walk-loop-again-2 : (t : ℕ) → walk-lts.Need-loop-again-2 (
   walk-below t,
   walk.Post,
 ) (walk-at t) walk.Post walk-Inv-loop walk-μ-loop
-walk-loop-again-2 t c = ((c .before .before .before .walk) .kept .1 .1 .1 .1 .1 .1 .1 .1 .1 .1 .0 ∙ (c .before .before .before .before .before .before .before .before .before .before .before .before .loop) .inv .0, λ w. let y = (c .before .before .before .before .before .before .before .before .before .before .before .loop-test) .taken in let few = w .leads .few in let slot = w .slot in let row : length ((c .before .before .before .before .before .before .before .before .before .before .before .before .before .before .before .before .before .before .args) .row) ≡ 16 = ((c .before .before .before .before .before .before .before .before .before .before .before .before .before .before .before .before .before .before .good) .1 .1 .1 .1 .1 .1 .1 .1 .0 .1 .0 .1) in let long : (c .before .before .before .before .before .before .before .before .before .before .before .before .before .before .before .before .before .before .args) .j < length ((c .before .before .before .before .before .before .before .before .before .before .before .before .before .before .before .before .before .before .args) .row) = omega arith in let inner : (c .before .before .before .before .before .before .before .before .before .before .before .before .before .before .before .before .before .before .args) .j + 1 < (c .before .before .before .before .before .before .before .before .before .before .before .before .before .before .before .before .before .before .args) .m = omega (arith, (c .before .before .before .before .before .before .before .before .before .if1) .left) in let ea : (c .before .before .before .before .before .before .before .before .before .before .before .before .loop) .q + (c .before .before .before .before .before .before .before .widen) .result + 1 ≡ (c .before .before .before .before .before .before .before .before .before .before .before .before .loop) .q + getD ((c .before .before .before .before .before .before .before .before .before .before .before .before .before .before .before .before .before .before .args) .low .now) ((c .before .before .before .before .before .before .before .before .before .before .before .before .before .before .before .before .before .before .args) .j + 1) 0 + 1 = omega (arith, (c .before .before .before .before .before .before .before .widen) .ensures .0) in let eb : (c .before .before .before .before .before .before .before .before .before .before .before .before .loop) .q + (c .before .before .before .before .before .widen2) .result + 1 ≡ (c .before .before .before .before .before .before .before .before .before .before .before .before .loop) .q + getD ((c .before .before .before .before .before .before .before .before .before .before .before .before .before .before .before .before .before .before .args) .high .now) ((c .before .before .before .before .before .before .before .before .before .before .before .before .before .before .before .before .before .before .args) .j + 1) 0 + 1 = omega (arith, (c .before .before .before .before .before .widen2) .ensures .0) in let g = (c .before .before .before .before .before .before .before .before .before .before .before .before .loop) .inv .1 w in going-more g y ((c .entry3) .ensures .0) long ((c .before .before .before .before .before .before .before .before .before .before .placed) .ensures) inner ea eb ((c .before .before .before .before .before .before .before .before .before .before .before .before .loop) .inv .0) ((c .before .before .before .walk) .ensures (child g y inner ea eb ((c .before .before .before .before .before .before .before .before .before .before .before .before .loop) .inv .0))))
+walk-loop-again-2 t c = (c .before .before .before .walk .kept .1 .1 .1 .1 .1 .1 .1 .1 .1 .1 .0 ∙ c .before .before .before .before .before .before .before .before .before .before .before .before .loop .inv .0, λ w. let y = c .before .before .before .before .before .before .before .before .before .before .before .loop-test .taken in let few = w .leads .few in let slot = w .slot in let row : length (c .before .before .before .before .before .before .before .before .before .before .before .before .before .before .before .before .before .before .args .row) ≡ 16 = (c .before .before .before .before .before .before .before .before .before .before .before .before .before .before .before .before .before .before .good .1 .1 .1 .1 .1 .1 .1 .1 .0 .1 .0 .1) in let long : c .before .before .before .before .before .before .before .before .before .before .before .before .before .before .before .before .before .before .args .j < length (c .before .before .before .before .before .before .before .before .before .before .before .before .before .before .before .before .before .before .args .row) = omega arith in let inner : c .before .before .before .before .before .before .before .before .before .before .before .before .before .before .before .before .before .before .args .j + 1 < c .before .before .before .before .before .before .before .before .before .before .before .before .before .before .before .before .before .before .args .m = omega (arith, c .before .before .before .before .before .before .before .before .before .if1 .left) in let ea : c .before .before .before .before .before .before .before .before .before .before .before .before .loop .q + c .before .before .before .before .before .before .before .widen .result + 1 ≡ c .before .before .before .before .before .before .before .before .before .before .before .before .loop .q + getD (c .before .before .before .before .before .before .before .before .before .before .before .before .before .before .before .before .before .before .args .low .now) (c .before .before .before .before .before .before .before .before .before .before .before .before .before .before .before .before .before .before .args .j + 1) 0 + 1 = omega (arith, c .before .before .before .before .before .before .before .widen .ensures .0) in let eb : c .before .before .before .before .before .before .before .before .before .before .before .before .loop .q + c .before .before .before .before .before .widen2 .result + 1 ≡ c .before .before .before .before .before .before .before .before .before .before .before .before .loop .q + getD (c .before .before .before .before .before .before .before .before .before .before .before .before .before .before .before .before .before .before .args .high .now) (c .before .before .before .before .before .before .before .before .before .before .before .before .before .before .before .before .before .before .args .j + 1) 0 + 1 = omega (arith, c .before .before .before .before .before .widen2 .ensures .0) in let g = c .before .before .before .before .before .before .before .before .before .before .before .before .loop .inv .1 w in going-more g y (c .entry3 .ensures .0) long (c .before .before .before .before .before .before .before .before .before .before .placed .ensures) inner ea eb (c .before .before .before .before .before .before .before .before .before .before .before .before .loop .inv .0) (c .before .before .before .walk .ensures (child g y inner ea eb (c .before .before .before .before .before .before .before .before .before .before .before .before .loop .inv .0))))
 
--- src/walk.rt:72:1
 walk-same-length : (t : ℕ) → walk-lts.Need-same-length (
   entry-reads.Asked,
   entry-reads.Learnt,
@@ -465,9 +438,8 @@ walk-same-length : (t : ℕ) → walk-lts.Need-same-length (
   walk-below t,
   walk.Post,
 ) (walk-at t) walk.Post walk-Inv-loop walk-μ-loop
-walk-same-length t c = (c .before .loop) .inv .0
+walk-same-length t c = c .before .loop .inv .0
 
--- src/walk.rt:72:1
 walk-returns : (t : ℕ) → walk-lts.Need-returns (
   entry-reads.Asked,
   entry-reads.Learnt,
@@ -480,7 +452,7 @@ walk-returns : (t : ℕ) → walk-lts.Need-returns (
   walk-below t,
   walk.Post,
 ) (walk-at t) walk.Post walk-Inv-loop walk-μ-loop
-walk-returns t c = λ w. going-end ((c .before .loop) .inv .1 w) ((c .loop-test) .left)
+walk-returns t c = λ w. going-end (c .before .loop .inv .1 w) (c .loop-test .left)
 
 pub +walk-spec : {M : Type 1} → statement M
 +walk-spec = close μ-walk λ t. walk-lts.spec (

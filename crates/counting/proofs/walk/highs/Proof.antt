@@ -1,3 +1,4 @@
+-- `counting::walk::highs` meets its contract. The invariant: the bounds of the slots passed stand in the array.
 use native.Mathlib.Omega.{arith}
 use mathlib.Core.Path.{refl}
 use Prim.Native.Nat.{_-_}
@@ -6,8 +7,6 @@ use Rattle.counting.proofs.Walking.{Bounding, bounding-begin, bounding-
 use borrow.Author.Needs.{needs}
 use Rattle.counting.proofs.walk.highs.Statement.{statement}
 use Rattle.counting.proofs.walk.highs.Tie as tie
-use Rattle.counting.proofs.walk.highs.Reads as reads
-use Rattle.counting.proofs.walk.highs.Lts as lts
 
 abbrev Inv-loop : tie.InvT-loop
 Inv-loop f m high₀ j₀ high j = Bounding f (λ k. slotAt f k .high) j high
@@ -15,41 +14,32 @@ Inv-loop f m high₀ j₀ high j = Bounding f (λ k. slotAt f k .high) j high
 abbrev μ-loop : tie.MeasureT-loop
 μ-loop f m high₀ j₀ high j = m - j
 
--- src/walk.rt:35:5
 loop-holds : tie.Need-loop-holds Inv-loop μ-loop
 loop-holds c = bounding-begin
 
--- src/walk.rt:36:17
 mul-s : tie.Need-mul-s Inv-loop μ-loop
 mul-s c = omega (arith, (c .before .before .pre))
 
--- src/walk.rt:36:17
 element-copy-out-s : tie.Need-element-copy-out-s Inv-loop μ-loop
 element-copy-out-s c = omega (arith, (c .before .before .pre))
 
--- src/walk.rt:37:9
 mul-high : tie.Need-mul-high Inv-loop μ-loop
 mul-high c = search needs
 
--- src/walk.rt:37:9
 array-write-high : tie.Need-array-write-high Inv-loop μ-loop
 array-write-high c = search needs
 
--- src/walk.rt:38:9
 add-j : tie.Need-add-j Inv-loop μ-loop
 add-j c = search needs
 
--- src/walk.rt:35:5
 loop-less : tie.Need-loop-less Inv-loop μ-loop
 loop-less c = search needs
 
--- src/walk.rt:35:5
 loop-again : tie.Need-loop-again Inv-loop μ-loop
-loop-again c = bounding-more ((c .before .before .loop) .inv) ((c .before .loop-test) .taken) ((c .before .before .before .pre)) refl
+loop-again c = bounding-more (c .before .before .loop .inv) (c .before .loop-test .taken) ((c .before .before .before .pre)) refl
 
--- src/walk.rt:28:1
 returns : tie.Need-returns Inv-loop μ-loop
-returns c = bounded ((c .before .loop) .inv) ((c .loop-test) .left)
+returns c = bounded (c .before .loop .inv) (c .loop-test .left)
 
 pub highs-spec : {M : Type 1} → statement M
 highs-spec =

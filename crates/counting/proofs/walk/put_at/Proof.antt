@@ -1,44 +1,34 @@
+-- `counting::walk::put_at` meets its contract: the row written at the start of the part stands there in the whole list.
 use native.Mathlib.Omega.{arith}
 use Prim.Native.Nat.{_*_}
 use Rattle.counting.proofs.Walking.{pasted}
 use borrow.Author.Needs.{needs}
 use Rattle.counting.proofs.walk.put_at.Statement.{statement}
 use Rattle.counting.proofs.walk.put_at.Tie as tie
-use Rattle.counting.proofs.walk.put_at.Reads as reads
-use Rattle.counting.proofs.walk.put_at.Lts as lts
-use Rattle.matching.proofs.put_row.Reads as put-row-reads
 
--- src/walk.rt:67:14
 mul-at : tie.Need-mul-at
 mul-at c = search needs
 
--- src/walk.rt:68:13
 mul-put-row : tie.Need-mul-put-row
 mul-put-row c = search needs
 
--- src/walk.rt:68:13
 sub-put-row : tie.Need-sub-put-row
 sub-put-row c = search needs
 
--- src/walk.rt:68:13
 part-put-row-start : tie.Need-part-put-row-start
 part-put-row-start c = search needs
 
--- src/walk.rt:68:13
 part-put-row-end : tie.Need-part-put-row-end
 part-put-row-end c = search needs
 
--- src/walk.rt:68:5
 put-row-requires : tie.Need-put-row-requires
 put-row-requires c κs = search needs
 
--- src/walk.rt:63:1
 same-length : tie.Need-same-length
 same-length c = search needs
 
--- src/walk.rt:63:1
 returns : tie.Need-returns
-returns c = let a = (c .before .before .before .before .before .args) in pasted (a .list .now) (a .k * a .m) (omega (arith, (c .before .before .before .before .before .pre) .1)) (a .row) ((c .before .before .put-row) .last .0) (a .m) ((c .before .before .before .before .before .pre) .0) ((c .before .before .before .before .before .pre) .1) ((c .before .before .put-row) .ensures)
+returns c = let a = (c .before .before .before .before .before .args) in pasted (a .list .now) (a .k * a .m) (omega (arith, c .before .before .before .before .before .pre .1)) (a .row) (c .before .before .put-row .last .0) (a .m) (c .before .before .before .before .before .pre .0) (c .before .before .before .before .before .pre .1) (c .before .before .put-row .ensures)
 
 pub put-at-spec : {M : Type 1} → statement M
 put-at-spec =

@@ -1,6 +1,6 @@
+-- `counting::window::ending` meets its contract: its two tests are those of the definition.
 use Rattle.counting.proofs.Loops.{ending-yes, ending-early, ending-no}
 use borrow.Author.Tests.{eq-eqb, ne-eqb}
-use borrow.Author.Needs.{needs}
 use Rattle.counting.proofs.window.ending.Statement.{statement}
 use Rattle.counting.proofs.window.ending.Tie as tie
 

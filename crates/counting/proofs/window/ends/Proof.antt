@@ -1,3 +1,4 @@
+-- `counting::window::ends` meets its contract. The invariant: the row is done below the index i.
 use Rattle.counting.proofs.Loops.{Ending, end-begin, end-more, ended}
 use Prim.Native.Nat.{_-_}
 use borrow.Author.Needs.{needs}

@@ -1,8 +1,7 @@
+-- `counting::window::spread` meets its contract. The invariant: the row is done below i, and from i on it has the next slot's sums.
 use Rattle.counting.specs.Numbers.{val}
 use Rattle.counting.proofs.Loops.{Spreading, spread-begin, spread-more, spread-order, spread-take, spread-skip, spreaded}
 use Prim.Native.Nat.{_-_}
-use lib.ListN.{length-set}
-use native.Mathlib.Omega.{arith}
 use borrow.Author.Needs.{needs}
 use Rattle.counting.proofs.window.spread.Statement.{statement}
 use Rattle.counting.proofs.window.spread.Tie as tie

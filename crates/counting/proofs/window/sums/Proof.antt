@@ -1,8 +1,6 @@
+-- `counting::window::sums` meets its contract. The invariant: the sums are done from the index i on.
 use Rattle.counting.specs.Numbers.{val}
 use Rattle.counting.proofs.Loops.{Summing, sum-begin, sum-fits, sum-more, summed}
-use Prim.Native.Nat.{_-_}
-use lib.ListN.{length-set}
-use native.Mathlib.Omega.{arith}
 use borrow.Author.Needs.{needs}
 use Rattle.counting.proofs.window.sums.Statement.{statement}
 use Rattle.counting.proofs.window.sums.Tie as tie

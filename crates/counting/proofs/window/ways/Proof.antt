@@ -1,8 +1,8 @@
+-- `counting::window::ways` meets its contract. The invariant: the row has the sums of the ways on from slot j.
 use Rattle.counting.specs.Laws.Inputs.{gaps}
-use Rattle.counting.proofs.Counting.{Counting, Row, end-row, spread-row, row-summable, row-holds, holds-falling, counting-begin, counting-more, counted, reach-back, size-back, size-less, size-of, room-less, reach-bound}
-use Prim.Native.Nat.{suc, _+_, _-_, _≤_, _<_}
-use mathlib.Core.Path.{_≡_, refl, sym, _∙_}
-use lib.ListN.{length}
+use Rattle.counting.proofs.Counting.{Counting, end-row, spread-row, row-summable, row-holds, holds-falling, counting-begin, counting-more, counted, reach-back, size-back, size-less, size-of, room-less, reach-bound}
+use Prim.Native.Nat.{_-_}
+use mathlib.Core.Path.{refl, _∙_}
 use native.Mathlib.Omega.{arith}
 use borrow.Author.Needs.{needs}
 use Rattle.counting.proofs.window.ways.Statement.{statement}
