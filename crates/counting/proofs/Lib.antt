@@ -1,0 +1,9 @@
+pub mod Carry
+pub mod Loops
+pub mod Counting
+pub mod Passes
+pub mod Reaching
+pub mod Tabling
+pub mod Walking
+pub mod Listings
+pub mod Answers

@@ -1,0 +1,221 @@
+-- Rows of numbers in two halves, and what the loops keep of them. Assumes nothing.
+use Prim.Native.Nat.{ℕ, suc, _+_, _-_, _*_, _^_, _≤_, _<_, min}
+use mathlib.Core.List.{List}
+use mathlib.Core.Bool.{Bool, true, false, _&&_}
+use mathlib.Core.Path.{_≡_, refl, sym, ap, _∙_}
+use native.Mathlib.Nat.{sub-self}
+use native.Mathlib.Decide.{ℕ-discrete}
+use native.Mathlib.Omega.{arith}
+use lib.ListN.{length, getD, set, length-set}
+use lib.Seq.{getD-set-same, getD-set-other}
+use lib.Dec.{eqb, leb}
+use borrow.Author.Tests.{eq-eqb, ne-eqb, le-leb, lt-leb}
+use borrow.Author.Count.{below-more}
+use Rattle.pattern.specs.declared.slot.Slot.{Slot}
+use Rattle.pattern.specs.Patterns.{takes}
+use Rattle.matching.specs.Laws.Sums.{total, rest, rest-step}
+use Rattle.matching.specs.Laws.Branches.{when}
+use Rattle.counting.specs.Numbers.{val}
+use Rattle.counting.specs.Steps.{marked, SlotMarked, Room, Ended, Falling, Spread, Summable, Summed}
+
+-- ---- a store to both halves
+
+module _ (H L : List ℕ) (i h l : ℕ) where
+  pub val-same : i < length H → i < length L → val (set H i h) (set L i l) i ≡ h * 2 ^ 64 + l
+  unfolding val
+  val-same a b = rw (getD-set-same H i h 0 a, getD-set-same L i l 0 b)
+
+  pub val-other : (k : ℕ) → (k ≡ i → ⊥) → val (set H i h) (set L i l) k ≡ val H L k
+  unfolding val
+  val-other k n = rw (getD-set-other H i k h 0 n, getD-set-other L i k l 0 n)
+
+-- ---- the sums of a row: done from i on
+
+pub rest-stop : (v : ℕ → ℕ) (n : ℕ) → rest v n n ≡ 0
+unfolding rest total
+rest-stop v n = rw (sub-self n)
+
+pub record Summing (n : ℕ) (H₀ L₀ : List ℕ) (i : ℕ) (H L : List ℕ) : Type 0 where
+  pub high : length H ≡ length H₀
+  pub low : length L ≡ length L₀
+  pub inside : i ≤ n
+  pub done : (k : ℕ) → i ≤ k → k ≤ n → val H L k ≡ rest (val H₀ L₀) n k
+  pub todo : (k : ℕ) → k < i → val H L k ≡ val H₀ L₀ k
+
+pub sum-begin : {n : ℕ} {H L : List ℕ} → Summable n H L → Summing n H L n H L
+sum-begin {n} {H} {L} s = record {
+  high = refl;
+  low = refl;
+  inside = omega arith;
+  done = λ k a b. let e : k ≡ n = omega arith in rw e (s .stop ∙ sym (rest-stop (val H L) n));
+  todo = λ k h. refl;
+}
+
+module _ {n : ℕ} {H₀ L₀ : List ℕ} {i : ℕ} {H L : List ℕ} (s : Summing n H₀ L₀ i H L) (pos : 0 < i) where
+  sum-next : val H L (i - 1) + val H L i ≡ rest (val H₀ L₀) n (i - 1)
+  sum-next =
+      let e : suc (i - 1) ≡ i = omega arith in
+      let a = s .inside in
+      let r = rw e at (rest-step (val H₀ L₀) n (i - 1) (omega arith)) in
+      omega (arith, r, s .todo (i - 1) (omega arith), s .done i (omega arith) (omega arith))
+
+  pub sum-fits : Summable n H₀ L₀ → val H L (i - 1) + val H L i < 2 ^ 128
+  sum-fits b = let a = s .inside in rw sum-next (b .fits (i - 1) (omega arith))
+
+  pub sum-more : Room n H₀ L₀ → (h l : ℕ) → h * 2 ^ 64 + l ≡ val H L (i - 1) + val H L i → Summing n H₀ L₀ (i - 1) (set H (i - 1) h) (set L (i - 1) l)
+  sum-more room h l e =
+      let a = s .inside in
+      let rh = room .high in
+      let rl = room .low in
+      let b = s .high in
+      let c = s .low in
+      record {
+        high = simp length-set (s .high);
+        low = simp length-set (s .low);
+        inside = omega arith;
+        done = λ k x y. elim (ℕ-discrete k (i - 1)) [
+          | yes q ↦ rw q (val-same H L (i - 1) h l (omega arith) (omega arith) ∙ e ∙ sum-next)
+          | no q ↦ val-other H L (i - 1) h l k q ∙ s .done k (omega arith) y
+        ];
+        todo = λ k x. val-other H L (i - 1) h l k (λ q. omega arith) ∙ s .todo k (omega arith);
+      }
+
+pub summed : {n : ℕ} {H₀ L₀ : List ℕ} {i : ℕ} {H L : List ℕ} → Summing n H₀ L₀ i H L → i ≤ 0 → Summed n H₀ L₀ H L
+summed s z = record { sums = λ k h. s .done k (omega arith) h }
+
+-- ---- the last slot's row: done below i
+
+module _ {b : Bool} (from p : ℕ) where
+  pub ending-yes : b ≡ true → from ≤ p → 1 ≡ when (b && leb from p) 1
+  unfolding when
+  ending-yes e h = rw (e, le-leb from p h)
+
+  pub ending-early : b ≡ true → p < from → 0 ≡ when (b && leb from p) 1
+  unfolding when
+  ending-early e h = rw (e, lt-leb from p h)
+
+  pub ending-no : b ≡ false → 0 ≡ when (b && leb from p) 1
+  unfolding when
+  ending-no e = rw e
+
+pub record Ending (M : List ℕ) (at first n from : ℕ) (H₀ L₀ : List ℕ) (i : ℕ) (H L : List ℕ) : Type 0 where
+  pub high : length H ≡ length H₀
+  pub low : length L ≡ length L₀
+  pub inside : i ≤ n
+  pub row : (k : ℕ) → k < i → val H L k ≡ when (marked M (at + k) && leb from (first + k + 1)) 1
+
+pub end-begin : {M : List ℕ} {at first n from : ℕ} {H L : List ℕ} → Ending M at first n from H L 0 H L
+end-begin = record { high = refl; low = refl; inside = omega arith; row = λ k h. absurd (omega arith) }
+
+module _ {M : List ℕ} {at first n from : ℕ} {H₀ L₀ : List ℕ} {i : ℕ} {H L : List ℕ} (s : Ending M at first n from H₀ L₀ i H L) where
+  pub end-more : Room n H₀ L₀ → i < n → (l : ℕ) → l ≡ when (marked M (at + i) && leb from (first + i + 1)) 1
+      → Ending M at first n from H₀ L₀ (i + 1) (set H i 0) (set L i l)
+  end-more room h l e =
+      let b = s .high in
+      let c = s .low in
+      let rh = room .high in
+      let rl = room .low in
+      record {
+        high = simp length-set (s .high);
+        low = simp length-set (s .low);
+        inside = omega arith;
+        row = below-more _ i (λ k x. val-other H L i 0 l k (λ q. omega arith) ∙ s .row k x) (val-same H L i 0 l (omega arith) (omega arith) ∙ omega arith);
+      }
+
+  pub ended : Room n H₀ L₀ → n ≤ i → Ended M at first n from (set H n 0) (set L n 0)
+  ended room h =
+      let b = s .high in
+      let c = s .low in
+      let rh = room .high in
+      let rl = room .low in
+      record {
+        row = λ k x. val-other H L n 0 0 k (λ q. omega arith) ∙ s .row k (omega arith);
+        stop = val-same H L n 0 0 (omega arith) (omega arith);
+      }
+
+-- ---- a slot's row: done below i, and the sums of the next slot's row from i on
+
+abbrev pub spreadAt : List ℕ → ℕ → ℕ → ℕ → ℕ → List ℕ → List ℕ → ℕ → ℕ
+spreadAt M at low high m H L i = when (marked M (at + i)) (val H L (min (i + low + 1) m) - val H L (min (i + high + 2) m))
+
+pub record Spreading (M : List ℕ) (at low high n m : ℕ) (H₀ L₀ : List ℕ) (i : ℕ) (H L : List ℕ) : Type 0 where
+  pub long : length H ≡ length H₀
+  pub long′ : length L ≡ length L₀
+  pub inside : i ≤ n
+  pub done : (k : ℕ) → k < i → val H L k ≡ spreadAt M at low high m H₀ L₀ k
+  pub todo : (k : ℕ) → i ≤ k → val H L k ≡ val H₀ L₀ k
+
+pub spread-begin : {M : List ℕ} {at low high n m : ℕ} {H L : List ℕ} → Spreading M at low high n m H L 0 H L
+spread-begin = record { long = refl; long′ = refl; inside = omega arith; done = λ k h. absurd (omega arith); todo = λ k h. refl }
+
+module _ {M : List ℕ} {at low high n m : ℕ} {H₀ L₀ : List ℕ} {i : ℕ} {H L : List ℕ} (s : Spreading M at low high n m H₀ L₀ i H L) (x : i < n) (fit : n ≤ m) where
+  pub spread-more : Room m H₀ L₀ → (h l : ℕ) → h * 2 ^ 64 + l ≡ spreadAt M at low high m H₀ L₀ i
+      → Spreading M at low high n m H₀ L₀ (i + 1) (set H i h) (set L i l)
+  spread-more room h l e =
+      let b = s .long in
+      let c = s .long′ in
+      let rh = room .high in
+      let rl = room .low in
+      record {
+        long = simp length-set (s .long);
+        long′ = simp length-set (s .long′);
+        inside = omega arith;
+        done = below-more _ i (λ k y. val-other H L i h l k (λ q. omega arith) ∙ s .done k y) (val-same H L i h l (omega arith) (omega arith) ∙ e);
+        todo = λ k y. val-other H L i h l k (λ q. omega arith) ∙ s .todo k (omega arith);
+      }
+
+  module _ (wide : low ≤ high) {a b : ℕ} (ea : a ≡ min (i + low + 1) m) (eb : b ≡ min (i + high + 2) m) where
+    -- the two sums stand in order
+    pub spread-order : Falling m H₀ L₀ → val H L b ≤ val H L a
+    spread-order f = rw (s .todo a (omega arith), s .todo b (omega arith)) (f .falls a b (omega arith) (omega arith))
+
+    pub spread-take : (v : ℕ) → getD M (at + i) 0 ≡ 1 → v ≡ val H L a - val H L b → v ≡ spreadAt M at low high m H₀ L₀ i
+    unfolding when
+    spread-take v q d =
+        let y = eq-eqb (getD M (at + i) 0) 1 q in
+        let za : val H L a ≡ val H₀ L₀ (min (i + low + 1) m) = s .todo a (omega arith) ∙ ap (val H₀ L₀) ea in
+        let zb : val H L b ≡ val H₀ L₀ (min (i + high + 2) m) = s .todo b (omega arith) ∙ ap (val H₀ L₀) eb in
+        rw y (omega arith)
+
+pub spread-skip : (M : List ℕ) (at low high m : ℕ) (H L : List ℕ) (i : ℕ) → (getD M (at + i) 0 ≡ 1 → ⊥) → 0 * 2 ^ 64 + 0 ≡ spreadAt M at low high m H L i
+unfolding when
+spread-skip M at low high m H L i q = rw (ne-eqb (getD M (at + i) 0) 1 q)
+
+pub spreaded : {M : List ℕ} {at low high n m : ℕ} {H₀ L₀ : List ℕ} {i : ℕ} {H L : List ℕ} → Spreading M at low high n m H₀ L₀ i H L → n ≤ m → Room m H₀ L₀ → n ≤ i
+    → Spread M at low high n m H₀ L₀ (set H n 0) (set L n 0)
+spreaded {n = n} {H = H} {L = L} s fit room h =
+    let b = s .long in
+    let c = s .long′ in
+    let rh = room .high in
+    let rl = room .low in
+    record {
+      row = λ k x. val-other H L n 0 0 k (λ q. omega arith) ∙ s .done k (omega arith);
+      stop = val-same H L n 0 0 (omega arith) (omega arith);
+    }
+
+-- ---- the marks of a slot: done below i
+
+pub record Marking (w : Slot) (t : List ℕ) (at : ℕ) (M₀ : List ℕ) (i : ℕ) (M : List ℕ) : Type 0 where
+  pub long : length M ≡ length M₀
+  pub here : (k : ℕ) → k < i → marked M (at + k) ≡ takes w (getD t k 0)
+  pub before : (k : ℕ) → k < at → getD M k 0 ≡ getD M₀ k 0
+
+pub mark-begin : {w : Slot} {t : List ℕ} {at : ℕ} {M : List ℕ} → Marking w t at M 0 M
+mark-begin = record { long = refl; here = λ k h. absurd (omega arith); before = λ k h. refl }
+
+pub mark-more : {w : Slot} {t : List ℕ} {at : ℕ} {M₀ : List ℕ} {i : ℕ} {M : List ℕ} → Marking w t at M₀ i M
+    → at + length t ≤ length M₀ → i < length t → {r : Bool} (v : ℕ) → r ≡ takes w (getD t i 0) → eqb v 1 ≡ r
+    → Marking w t at M₀ (i + 1) (set M (at + i) v)
+mark-more {at = at} {i = i} {M = M} s room h v e q =
+    let l = s .long in
+    record {
+      long = simp length-set (s .long);
+      here = below-more _ i
+          (λ k x. rw (getD-set-other M (at + i) (at + k) v 0 (λ z. omega arith)) (s .here k x))
+          (rw (getD-set-same M (at + i) v 0 (omega arith)) (q ∙ e));
+      before = λ k x. getD-set-other M (at + i) k v 0 (λ z. omega arith) ∙ s .before k x;
+    }
+
+pub slot-marked : {w : Slot} {t : List ℕ} {at : ℕ} {M₀ : List ℕ} {i : ℕ} {M : List ℕ} → Marking w t at M₀ i M
+    → length t ≤ i → SlotMarked w t at M₀ M
+slot-marked s h = record { here = λ k x. s .here k (omega arith); before = s .before }

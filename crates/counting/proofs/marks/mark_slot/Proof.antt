@@ -1,0 +1,80 @@
+-- `counting::marks::mark_slot` meets its contract. The invariant: the marks of the words passed are set.
+use Rattle.counting.proofs.Loops.{Marking, mark-begin, mark-more, slot-marked}
+use Prim.Native.Nat.{_-_, _≤_}
+use mathlib.Core.Path.{sym}
+use borrow.Author.Needs.{needs}
+use Rattle.counting.proofs.marks.mark_slot.Statement.{statement}
+use Rattle.counting.proofs.marks.mark_slot.Tie as tie
+
+abbrev Inv-loop : tie.InvT-loop
+Inv-loop slot t at marks₀ n i₀ marks i = (i ≤ n) × Marking slot t at marks₀ i marks
+
+abbrev μ-loop : tie.MeasureT-loop
+μ-loop slot t at marks₀ n i₀ marks i = n - i
+
+loop-holds : tie.Need-loop-holds Inv-loop μ-loop
+loop-holds c = (search needs, mark-begin)
+
+add-k : tie.Need-add-k Inv-loop μ-loop
+add-k c = search needs
+
+mul-takes : tie.Need-mul-takes Inv-loop μ-loop
+mul-takes c = search needs
+
+shared-slice-read-takes : tie.Need-shared-slice-read-takes Inv-loop μ-loop
+shared-slice-read-takes c = search needs
+
+takes-requires : tie.Need-takes-requires Inv-loop μ-loop
+takes-requires c κs = search needs
+
+slice-write-marks : tie.Need-slice-write-marks Inv-loop μ-loop
+slice-write-marks c = search needs
+
+add-i : tie.Need-add-i Inv-loop μ-loop
+add-i c = search needs
+
+loop-less : tie.Need-loop-less Inv-loop μ-loop
+loop-less c = search needs
+
+loop-again : tie.Need-loop-again Inv-loop μ-loop
+loop-again c = (search needs, mark-more (c .before .before .before .before .loop .inv .1) (c .before .before .before .before .before .before .before .pre) (c .before .before .before .loop-test .taken) 1 (c .before .takes .ensures) (sym (c .if1 .taken)))
+
+slice-write-marks-2 : tie.Need-slice-write-marks-2 Inv-loop μ-loop
+slice-write-marks-2 c = search needs
+
+add-i-2 : tie.Need-add-i-2 Inv-loop μ-loop
+add-i-2 c = search needs
+
+loop-less-2 : tie.Need-loop-less-2 Inv-loop μ-loop
+loop-less-2 c = search needs
+
+loop-again-2 : tie.Need-loop-again-2 Inv-loop μ-loop
+loop-again-2 c = (search needs, mark-more (c .before .before .before .before .loop .inv .1) (c .before .before .before .before .before .before .before .pre) (c .before .before .before .loop-test .taken) 0 (c .before .takes .ensures) (sym (c .if1 .left)))
+
+same-length : tie.Need-same-length Inv-loop μ-loop
+same-length c = search needs
+
+returns : tie.Need-returns Inv-loop μ-loop
+returns c = slot-marked (c .before .loop .inv .1) (c .loop-test .left)
+
+pub mark-slot-spec : {M : Type 1} → statement M
+mark-slot-spec =
+    tie.close
+    (tie.spec
+    Inv-loop
+    μ-loop
+    loop-holds
+    add-k
+    mul-takes
+    shared-slice-read-takes
+    takes-requires
+    slice-write-marks
+    add-i
+    loop-less
+    loop-again
+    slice-write-marks-2
+    add-i-2
+    loop-less-2
+    loop-again-2
+    same-length
+    returns)

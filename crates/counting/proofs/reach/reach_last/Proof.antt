@@ -1,0 +1,109 @@
+-- `counting::reach::reach_last` meets its contract. The invariant: the entries are done from the index i on, and q is the entry there.
+use native.Mathlib.Omega.{arith}
+use Rattle.counting.specs.Tables.{ends}
+use Rattle.counting.proofs.Reaching.{Reaching, reach-begin, reach-here, reach-later, reached}
+use lib.ListN.{length-set}
+use borrow.Author.Needs.{needs}
+use Rattle.counting.proofs.reach.reach_last.Statement.{statement}
+use Rattle.counting.proofs.reach.reach_last.Tie as tie
+
+abbrev Inv-loop : tie.InvT-loop
+Inv-loop marks at first n from base next₀ q₀ i₀ next q i = Reaching (ends marks at first from) n base next₀ i q next
+
+abbrev μ-loop : tie.MeasureT-loop
+μ-loop marks at first n from base next₀ q₀ i₀ next q i = i
+
+loop-holds : tie.Need-loop-holds Inv-loop μ-loop
+loop-holds c = reach-begin (omega arith)
+
+sub-i : tie.Need-sub-i Inv-loop μ-loop
+sub-i c = search needs
+
+add-k : tie.Need-add-k Inv-loop μ-loop
+add-k c = omega (arith, c .before .loop .inv .inside)
+
+add-d : tie.Need-add-d Inv-loop μ-loop
+add-d c = omega (arith, c .before .loop .inv .inside, c .before .loop .inv .long)
+
+shared-slice-read-holds : tie.Need-shared-slice-read-holds Inv-loop μ-loop
+shared-slice-read-holds c = omega (arith, c .before .before .loop .inv .inside)
+
+add-holds : tie.Need-add-holds Inv-loop μ-loop
+add-holds c = omega (arith, c .before .before .loop .inv .inside)
+
+add-holds-2 : tie.Need-add-holds-2 Inv-loop μ-loop
+add-holds-2 c = omega (arith, c .before .before .loop .inv .inside)
+
+holds-requires : tie.Need-holds-requires Inv-loop μ-loop
+holds-requires c κs = search needs
+
+cast-q : tie.Need-cast-q Inv-loop μ-loop
+cast-q c = omega (arith, c .before .before .before .before .loop .inv .inside)
+
+mul-next : tie.Need-mul-next Inv-loop μ-loop
+mul-next c = omega (arith, c .before .before .before .before .loop .inv .inside, c .before .before .before .before .loop .inv .long)
+
+slice-write-next : tie.Need-slice-write-next Inv-loop μ-loop
+slice-write-next c = omega (arith, c .before .before .before .before .loop .inv .inside, c .before .before .before .before .loop .inv .long)
+
+loop-less : tie.Need-loop-less Inv-loop μ-loop
+loop-less c = search needs
+
+loop-again : tie.Need-loop-again Inv-loop μ-loop
+loop-again c = reach-here (c .before .before .before .before .loop .inv) (c .before .before .before .loop-test .taken) (c .before .before .before .before .before .before .before .pre .3) (c .before .holds .ensures) (c .if1 .taken)
+
+mul-next-2 : tie.Need-mul-next-2 Inv-loop μ-loop
+mul-next-2 c = omega (arith, c .before .before .before .before .loop .inv .inside, c .before .before .before .before .loop .inv .long)
+
+slice-write-next-2 : tie.Need-slice-write-next-2 Inv-loop μ-loop
+slice-write-next-2 c = omega (arith, c .before .before .before .before .loop .inv .inside, c .before .before .before .before .loop .inv .long)
+
+loop-less-2 : tie.Need-loop-less-2 Inv-loop μ-loop
+loop-less-2 c = search needs
+
+loop-again-2 : tie.Need-loop-again-2 Inv-loop μ-loop
+loop-again-2 c = reach-later (c .before .before .before .before .loop .inv) (c .before .before .before .loop-test .taken) (c .before .before .before .before .before .before .before .pre .3) (c .before .holds .ensures) (c .if1 .left)
+
+add-d-2 : tie.Need-add-d-2 Inv-loop μ-loop
+add-d-2 c = omega (arith, c .before .loop .inv .long)
+
+mul-next-3 : tie.Need-mul-next-3 Inv-loop μ-loop
+mul-next-3 c = omega (arith, c .before .loop .inv .long)
+
+slice-write-next-3 : tie.Need-slice-write-next-3 Inv-loop μ-loop
+slice-write-next-3 c = omega (arith, c .before .loop .inv .long)
+
+same-length : tie.Need-same-length Inv-loop μ-loop
+same-length c = simp length-set (c .before .loop .inv .long)
+
+returns : tie.Need-returns Inv-loop μ-loop
+returns c = reached (c .before .loop .inv) (c .loop-test .left) (c .before .before .before .before .pre .2) (c .before .before .before .before .pre .3)
+
+pub reach-last-spec : {M : Type 1} → statement M
+reach-last-spec =
+    tie.close
+    (tie.spec
+    Inv-loop
+    μ-loop
+    loop-holds
+    sub-i
+    add-k
+    add-d
+    shared-slice-read-holds
+    add-holds
+    add-holds-2
+    holds-requires
+    cast-q
+    mul-next
+    slice-write-next
+    loop-less
+    loop-again
+    mul-next-2
+    slice-write-next-2
+    loop-less-2
+    loop-again-2
+    add-d-2
+    mul-next-3
+    slice-write-next-3
+    same-length
+    returns)

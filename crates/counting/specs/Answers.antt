@@ -1,0 +1,48 @@
+-- What the calls answer, by the tests of document 01's table in their order.
+use Prim.Native.Nat.{ℕ, _*_}
+use mathlib.Core.List.{List}
+use lib.ListN.{length}
+use lib.Dec.{ltb}
+use Rattle.pattern.specs.declared.Pattern.{Pattern}
+use Rattle.pattern.specs.declared.refusal.Refusal.the-variants.{ListLength, Tally}
+use Rattle.pattern.specs.declared.refusal.Verdict.{Verdict}
+use Rattle.pattern.specs.declared.refusal.Verdict.the-variants.{Accepted}
+use Rattle.pattern.specs.declared.refusal.Verdict.the-variants.{Refused as Turned}
+use Rattle.pattern.specs.Tests.{pick, inputVerdict}
+use Rattle.matching.specs.Occurrences.{occurrences}
+use Rattle.matching.specs.Written.{written}
+use Rattle.matching.specs.declared.rows.Listed.{Listed}
+use Rattle.matching.specs.declared.rows.Listed.the-variants.{Rows}
+use Rattle.matching.specs.declared.rows.Listed.the-variants.{Refused as Unlisted}
+use Rattle.counting.specs.declared.total.Tallied.{Tallied}
+use Rattle.counting.specs.declared.total.Tallied.the-variants.{Total, Refused}
+
+-- ---- the tally: 9 where the number is over 2 ^ 64 - 1
+
+abbrev pub totalOf : ℕ → Tallied
+totalOf n = pick (ltb 18446744073709551615 n) (Refused Tally) (Total n)
+
+abbrev pub talliedAfter : Verdict → ℕ → Tallied
+talliedAfter Accepted n = totalOf n
+talliedAfter (Turned why) n = Refused why
+
+abbrev pub tallied : Pattern → List ℕ → Tallied
+tallied f t = talliedAfter (inputVerdict f (length t)) (length (occurrences f t))
+
+-- ---- all occurrences: 8 where the list is shorter than rows times slots, with the place 0
+
+abbrev pub listedAfter : Verdict → ℕ → ℕ → ℕ → Listed
+listedAfter Accepted rows m n = pick (ltb n (rows * m)) (Unlisted (ListLength 0)) (Rows rows)
+listedAfter (Turned why) rows m n = Unlisted why
+
+-- the answer, for a list of n places
+abbrev pub allListed : Pattern → List ℕ → ℕ → Listed
+allListed f t n = listedAfter (inputVerdict f (length t)) (length (occurrences f t)) (f .count) n
+
+-- a list that was to hold what is written: as it was where nothing is listed
+abbrev pub listAfter : Listed → List ℕ → List ℕ → List ℕ
+listAfter (Rows rows) w l = w
+listAfter (Unlisted why) w l = l
+
+abbrev pub allWritten : Pattern → List ℕ → List ℕ → List ℕ
+allWritten f t l = listAfter (allListed f t (length l)) (written (f .count) (occurrences f t) l) l

@@ -1,0 +1,4 @@
+-- What follows from the definitions.
+pub mod Inputs
+pub mod Bound
+pub mod Runs

@@ -1,0 +1,70 @@
+-- What each step of the counting does. A row of numbers below 2 ^ 128 is two lists, of the high and of the low halves.
+use Prim.Native.Nat.{ℕ, _+_, _-_, _*_, _^_, _≤_, _<_, min}
+use mathlib.Core.List.{List}
+use mathlib.Core.Bool.{Bool, _&&_}
+use mathlib.Core.Path.{_≡_}
+use lib.ListN.{length, getD}
+use lib.Dec.{leb, eqb}
+use Rattle.pattern.specs.declared.Pattern.{Pattern}
+use Rattle.pattern.specs.Patterns.{takes, slotAt}
+use Rattle.pattern.specs.declared.slot.Slot.{Slot}
+use Rattle.matching.specs.Laws.Sums.{rest}
+use Rattle.matching.specs.Laws.Branches.{when, ways}
+use Rattle.matching.specs.Laws.Cover.{near, far}
+use Rattle.counting.specs.Numbers.{val}
+
+-- the mark at an index
+abbrev pub marked : List ℕ → ℕ → Bool
+marked M i = eqb (getD M i 0) 1
+
+-- the marks of one slot, from the index `at` on; what stands before is as it was
+pub record SlotMarked (s : Slot) (t : List ℕ) (at : ℕ) (M M′ : List ℕ) : Type 0 where
+  pub here : (i : ℕ) → i < length t → marked M′ (at + i) ≡ takes s (getD t i 0)
+  pub before : (k : ℕ) → k < at → getD M′ k 0 ≡ getD M k 0
+
+-- which slot takes which word of the text
+pub record Marked (f : Pattern) (t M : List ℕ) : Type 0 where
+  pub size : 320000 ≤ length M
+  pub mark : (j : ℕ) → j < f .count → (i : ℕ) → i < length t → marked M (j * 20000 + i) ≡ takes (slotAt f j) (getD t i 0)
+
+-- room for n numbers and one more
+pub record Room (n : ℕ) (H L : List ℕ) : Type 0 where
+  pub high : n < length H
+  pub low : n < length L
+
+-- the last slot's row: the marks from `at` on, the places from `first` + 1 on
+pub record Ended (M : List ℕ) (at first n from : ℕ) (H L : List ℕ) : Type 0 where
+  pub row : (i : ℕ) → i < n → val H L i ≡ when (marked M (at + i) && leb from (first + i + 1)) 1
+  pub stop : val H L n ≡ 0
+
+pub record Falling (n : ℕ) (H L : List ℕ) : Type 0 where
+  pub falls : (a b : ℕ) → a ≤ b → b ≤ n → val H L b ≤ val H L a
+
+-- a slot's row of n places, from the sums of the next slot's row of m
+pub record Spread (M : List ℕ) (at low high n m : ℕ) (H L H′ L′ : List ℕ) : Type 0 where
+  pub row : (i : ℕ) → i < n → val H′ L′ i ≡ when (marked M (at + i)) (val H L (min (i + low + 1) m) - val H L (min (i + high + 2) m))
+  pub stop : val H′ L′ n ≡ 0
+
+-- the row's sums fit
+pub record Summable (n : ℕ) (H L : List ℕ) : Type 0 where
+  pub stop : val H L n ≡ 0
+  pub fits : (i : ℕ) → i ≤ n → rest (val H L) n i < 2 ^ 128
+
+-- each number is the sum of what stood from there on
+pub record Summed (n : ℕ) (H L H′ L′ : List ℕ) : Type 0 where
+  pub sums : (i : ℕ) → i ≤ n → val H′ L′ i ≡ rest (val H L) n i
+
+-- how many places the row of slot j has: at most n, and `more` more than the first place reaches
+unfoldable pub size : Pattern → ℕ → ℕ → ℕ → ℕ
+size f n more j = min n (more + far f j + 1)
+
+unfoldable pub stopAt : Pattern → ℕ → ℕ → ℕ → ℕ → ℕ
+stopAt f first n more j = first + size f n more j + 1
+
+-- the sums of the row of slot j, with k slots after it
+pub record Holds (f : Pattern) (t : List ℕ) (first n more from k j : ℕ) (H L : List ℕ) : Type 0 where
+  pub sums : (i : ℕ) → i ≤ size f n more j → val H L i ≡ rest (ways f t (stopAt f first n more) from k j) (stopAt f first n more j) (first + i + 1)
+
+-- the span limits cannot bind: no row within the gaps is too short, and none in the text too long
+unfoldable pub free : Pattern → List ℕ → Bool
+free f t = leb (f .least) (near f (f .count - 1) + 1) && leb (min (far f (f .count - 1) + 1) (length t)) (f .most)

@@ -1,0 +1,49 @@
+ghost use mathlib.Core.Path.{_≡_};
+ghost use Prim.Native.Nat.{_+_, _-_, _^_, _<_, _≤_};
+ghost use Rattle.counting.specs.Numbers.{value};
+
+// A number below 2 ^ 128, in two halves.
+pub(crate) struct Wide {
+    pub hi: u64,
+    pub lo: u64,
+}
+
+pub(crate) fn add(a: Wide, b: Wide) -> Wide
+    requires { ⌜ value a + value b < 2 ^ 128 ⌝ }
+    ensures { λ r. ⌜ value r ≡ value a + value b ⌝ }
+{
+    let x = a.lo;
+    let y = b.lo;
+    let lo = std::num::wrapping_add_u64(x, y);
+    if lo < x {
+        Wide {
+            hi: a.hi + b.hi + 1,
+            lo,
+        }
+    } else {
+        Wide {
+            hi: a.hi + b.hi,
+            lo,
+        }
+    }
+}
+
+pub(crate) fn sub(a: Wide, b: Wide) -> Wide
+    requires { ⌜ value b ≤ value a ⌝ }
+    ensures { λ r. ⌜ value r ≡ value a - value b ⌝ }
+{
+    let x = a.lo;
+    let y = b.lo;
+    let lo = std::num::wrapping_sub_u64(x, y);
+    if x < y {
+        Wide {
+            hi: a.hi - b.hi - 1,
+            lo,
+        }
+    } else {
+        Wide {
+            hi: a.hi - b.hi,
+            lo,
+        }
+    }
+}

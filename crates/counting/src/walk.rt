@@ -1,0 +1,105 @@
+use crate::numbers::widen;
+use matching::put_row;
+use pattern::Pattern;
+ghost use mathlib.Core.Path.{_≡_};
+ghost use Prim.Native.Nat.{_+_, _*_, _<_, _≤_};
+ghost use lib.ListN.{length, getD, set};
+ghost use lib.Seq.{paste};
+ghost use Rattle.pattern.specs.Patterns.{slotAt};
+ghost use Rattle.counting.specs.Walks.{Bounds, Walk, Walked};
+
+// The least gap before each slot.
+pub(crate) fn lows(f: Pattern) -> [u16; 16]
+    requires { ⌜ f .count ≤ 16 ⌝ }
+    ensures { λ r. ⌜ Bounds f (λ j. slotAt f j .low) r ⌝ }
+{
+    let m = f.count;
+    let mut low = [0u16; 16];
+    let mut j = 0;
+    while j < m {
+        let s = f.slots[j];
+        low[j] = s.low;
+        j += 1;
+    }
+    low
+}
+
+// The widest gap before each slot.
+pub(crate) fn highs(f: Pattern) -> [u16; 16]
+    requires { ⌜ f .count ≤ 16 ⌝ }
+    ensures { λ r. ⌜ Bounds f (λ j. slotAt f j .high) r ⌝ }
+{
+    let m = f.count;
+    let mut high = [0u16; 16];
+    let mut j = 0;
+    while j < m {
+        let s = f.slots[j];
+        high[j] = s.high;
+        j += 1;
+    }
+    high
+}
+
+// The table's entry for slot j at an index.
+fn entry(next: &[u16], j: usize, i: usize) -> usize
+    requires { ⌜ (j < 16) × (i ≤ 20000) × (320016 ≤ length (now next)) ⌝ }
+    ensures { λ r. ⌜ (r ≡ getD (now (next .entry)) (j * 20001 + i) 0) × (r < 65536) ⌝ }
+{
+    let k = j * 20001 + i;
+    widen(next[k])
+}
+
+// The row with the place p at slot j.
+fn placed(row: [u16; 16], j: usize, p: usize) -> [u16; 16]
+    requires { ⌜ (j < 16) × (p < 65536) ⌝ }
+    ensures { λ r. ⌜ r ≡ set row j p ⌝ }
+{
+    let mut places = row;
+    places[j] = p as u16;
+    places
+}
+
+// Writes a row of m places as row number k of a list, counted from 0.
+fn put_at(list: &mut [u16], k: usize, row: [u16; 16], m: usize)
+    requires { ⌜ (m ≤ 16) × (k * m + m ≤ length (now list)) ⌝ }
+    ensures { λ _. ⌜ now (list .exit) ≡ paste (now (list .entry)) (k * m) row m ⌝ }
+{
+    let at = k * m;
+    put_row(&mut list[at..], row, m);
+}
+
+// Writes the rows that start at the indexes x to y of slot j, after the rows done, and answers how many are done then.
+pub(crate) fn walk(
+    low: &[u16],
+    high: &[u16],
+    next: &[u16],
+    m: usize,
+    first: usize,
+    j: usize,
+    x: usize,
+    y: usize,
+    row: [u16; 16],
+    done: usize,
+    list: &mut [u16],
+) -> usize
+    requires { ⌜ Walk m first (now low) (now high) (now next) j x y done (length (now list)) ⌝ }
+    ensures { λ r. ⌜ ((w : Walk m first (now (low .entry)) (now (high .entry)) (now (next .entry)) j x y done (length (now (list .entry)))) → Walked w row (now (list .entry)) r (now (list .exit))) ⌝ }
+{
+    let mut rows = done;
+    let mut q = entry(next, j, x);
+    while q <= y {
+        let places = placed(row, j, first + q + 1);
+        if j + 1 == m {
+            put_at(list, rows, places, m);
+            rows += 1;
+            q = entry(next, j, q + 1);
+        } else {
+            let k = j + 1;
+            let a = q + widen(low[k]) + 1;
+            let b = q + widen(high[k]) + 1;
+            rows = walk(low, high, next, m, first, k, a, b, places, rows, list);
+            q = entry(next, j, q + 1);
+        }
+    }
+    rows
+}
