@@ -2,27 +2,24 @@
 use Prim.Native.Nat.{ℕ, zero, suc, _+_, _*_, _≤_, _<_}
 use native.Mathlib.Omega.{arith}
 use native.Mathlib.Nat.{mul-le-mul-right}
-use mathlib.Core.List.{List, [], _∷_, _++_, map, reverse}
+use mathlib.Core.List.{List, _++_, map, reverse}
 use mathlib.Core.Bool.{Bool, true, false}
 use mathlib.Core.Option.{Option, none as nothing, some as just}
 use mathlib.Core.Path.{_≡_, refl, sym, ap, _∙_}
 use lib.ListN.{length, take, drop, length-map, length-reverse}
 use lib.Seq.{take-at, drop-at}
-use lib.Dec.{ltb}
 use borrow.Author.Tests.{lt-ltb, le-ltb}
 use Rattle.pattern.specs.declared.Pattern.{Pattern}
-use Rattle.pattern.specs.declared.refusal.Refusal.{Refusal}
 use Rattle.pattern.specs.declared.refusal.Refusal.the-variants.{ListLength}
 use Rattle.pattern.specs.declared.refusal.Verdict.the-variants.{Accepted}
-use Rattle.pattern.specs.Tests.{inputVerdict}
 use Rattle.pattern.specs.Laws.Accepting.{input-accepted}
 use Rattle.matching.specs.declared.rows.Listed.the-variants.{Rows, Refused}
 use Rattle.matching.specs.Collections.{Every}
-use Rattle.matching.specs.Lists.{onward, follow, leftmost, rightmost}
+use Rattle.matching.specs.Lists.{onward, follow, leftmost}
 use Rattle.matching.specs.Written.{flat, written}
 use Rattle.matching.specs.Answers.{listed, filled, Best}
 use Rattle.matching.specs.Steps.Settling.{Ready}
-use Rattle.matching.specs.Steps.Turning.{seen, flip, Turned}
+use Rattle.matching.specs.Steps.Turning.{seen, flip}
 use Rattle.matching.specs.Steps.Listing.{Faces, shownRows, stored}
 use Rattle.matching.specs.Laws.Collections.{every-map}
 use Rattle.matching.specs.Laws.Direction.{forwards}

@@ -1,20 +1,18 @@
 -- A row of places that is raised until it is an occurrence. Assumes nothing.
-use Prim.Native.Nat.{ℕ, zero, suc, _+_, _-_, _*_, _≤_, _<_}
+use Prim.Native.Nat.{ℕ, zero, suc, _+_, _-_, _≤_, _<_}
 use mathlib.Core.List.{List, [], _∷_}
-use mathlib.Core.Bool.{Bool, true, false, true≢false, false≢true}
-use mathlib.Core.Path.{_≡_, refl, sym, _∙_}
-use native.Mathlib.Decide.{ℕ-discrete, decLt}
+use mathlib.Core.Path.{_≡_, refl, _∙_}
+use native.Mathlib.Decide.{ℕ-discrete}
 use native.Mathlib.Nat.{le-of-suc-le-suc, not-suc-le-zero}
 use native.Mathlib.Omega.{arith}
-use lib.ListN.{length, getD, take, set, length-set}
-use lib.Seq.{getD-set-same, getD-set-other, getD-take, length-take-le}
+use lib.ListN.{length, set, length-set}
+use lib.Seq.{getD-set-same, getD-set-other}
 use Rattle.pattern.specs.declared.Pattern.{Pattern}
 use Rattle.pattern.specs.Patterns.{takes, slotAt}
-use Rattle.matching.specs.declared.search.Answer.{Answer}
-use Rattle.matching.specs.Occurrence.{Occurs, wordAt, at}
-use Rattle.matching.specs.Rows.{Before, NotAfter}
+use Rattle.matching.specs.Occurrence.{Occurs, at}
+use Rattle.matching.specs.Rows.{NotAfter}
 use Rattle.matching.specs.Steps.Bounds.{First, Least, Between, Prior, Next}
-use Rattle.matching.specs.Steps.Settling.{Ready, Bound, Visited, Placed, Never, slack, Rising, Stable, Settled, Started, Answered}
+use Rattle.matching.specs.Steps.Settling.{Ready, Bound, Visited, Placed, Never, slack, Rising, Stable}
 
 -- what the ring's neighbours allow is what the other slots allow
 pub bounded : {f : Pattern} {p : List ℕ} {j i k : ℕ} → Prior (f .count) j i → Next (f .count) j k → (z : ℕ)

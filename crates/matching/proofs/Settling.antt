@@ -1,21 +1,19 @@
 -- The rounds over the slots: when no slot of the last round asks more, the row is an occurrence, and the earliest. Assumes nothing.
-use Prim.Native.Nat.{ℕ, zero, suc, _+_, _-_, _*_, _≤_, _<_}
-use mathlib.Core.List.{List, [], _∷_}
-use mathlib.Core.Bool.{Bool, true, false, true≢false, false≢true}
+use Prim.Native.Nat.{ℕ, _+_, _-_, _≤_, _<_}
+use mathlib.Core.List.{List}
+use mathlib.Core.Bool.{true, false, true≢false}
 use mathlib.Core.Path.{_≡_, refl, sym, _∙_}
 use native.Mathlib.Decide.{ℕ-discrete, decLt}
-use native.Mathlib.Nat.{le-of-suc-le-suc, not-suc-le-zero}
 use native.Mathlib.Omega.{arith}
-use lib.ListN.{length, getD, take, set, length-set}
-use lib.Seq.{getD-set-same, getD-set-other, getD-take, length-take-le}
+use lib.ListN.{length, take, set}
+use lib.Seq.{getD-take, length-take-le}
 use Rattle.pattern.specs.declared.Pattern.{Pattern}
-use Rattle.pattern.specs.Patterns.{takes, slotAt}
 use Rattle.matching.specs.declared.search.Answer.{Answer}
-use Rattle.matching.specs.Occurrence.{Occurs, wordAt, at}
+use Rattle.matching.specs.Occurrence.{Occurs, at}
 use Rattle.matching.specs.Rows.{Before, NotAfter}
-use Rattle.matching.specs.Steps.Bounds.{First, Least, Between, Prior, Next}
+use Rattle.matching.specs.Steps.Bounds.{Next}
 use Rattle.matching.proofs.Raising.{rising-same, stable, raised, placed}
-use Rattle.matching.specs.Steps.Settling.{Ready, Bound, Visited, Placed, Never, slack, Rising, Stable, Settled, Started, Answered}
+use Rattle.matching.specs.Steps.Settling.{Ready, Visited, Placed, Never, Rising, Stable, Settled, Started, Answered}
 
 -- the invariant of the rounds: the slots of the last `calm` visits are stable
 pub record Calm (f : Pattern) (t p₀ p : List ℕ) (calm j : ℕ) : Type 0 where

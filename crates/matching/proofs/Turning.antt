@@ -1,12 +1,11 @@
 -- The loops that read a pattern and a row from the end. Assumes nothing.
-use Prim.Native.Nat.{ℕ, _+_, _-_, _≤_, _<_}
+use Prim.Native.Nat.{ℕ, _+_, _-_, _<_}
 use native.Mathlib.Omega.{arith}
 use mathlib.Core.List.{List}
 use mathlib.Core.Path.{_≡_, ap, _∙_}
-use lib.ListN.{length, getD, set}
-use Rattle.pattern.specs.declared.slot.Slot.{Slot}
+use lib.ListN.{length, set}
 use Rattle.pattern.specs.declared.Pattern.{Pattern}
-use Rattle.pattern.specs.Patterns.{slotAt, noSlot}
+use Rattle.pattern.specs.Patterns.{slotAt}
 use Rattle.pattern.specs.Laws.Arrays.{set-more}
 use Rattle.matching.specs.Occurrence.{at}
 use Rattle.matching.specs.Steps.Turning.{Gap, TurnedSlot}

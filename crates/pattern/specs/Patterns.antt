@@ -1,7 +1,7 @@
 -- Patterns and their slots (004, Definition 2; document 01: frames). A slot has a set of words where the definition has one letter.
 use Prim.Native.Nat.{ℕ, _+_, _-_}
 use mathlib.Core.List.{List, [], _∷_, _++_}
-use mathlib.Core.Bool.{Bool, true, false, _||_}
+use mathlib.Core.Bool.{Bool, false, _||_}
 use lib.ListN.{length, getD, take, set, replicate}
 use lib.Dec.{eqb}
 use Rattle.pattern.specs.declared.slot.Slot.{Slot}

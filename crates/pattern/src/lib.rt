@@ -1,6 +1,5 @@
 // Patterns with gap and length constraints, the limits they keep to, and why one is refused.
 ghost use mathlib.Core.Path.{_≡_};
-ghost use Prim.Native.Nat.{_≤_};
 ghost use Rattle.pattern.specs.Patterns.{emptyPattern, withSpan};
 ghost use Rattle.pattern.specs.Tests.{patternVerdict, inputVerdict};
 ghost use Rattle.pattern.specs.Adding.{extended};

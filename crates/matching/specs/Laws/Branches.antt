@@ -1,15 +1,12 @@
 -- All occurrences depth first: the rows from a slot on that start at a place, enumerated and counted. It computes fast.
-use Prim.Native.Nat.{ℕ, zero, suc, _+_, _-_, _*_, _^_, _≤_, _<_, min}
-use native.Mathlib.Nat.{pow-suc, pow-zero, mul-comm, mul-le-mul, mul-le-mul-right}
-use native.Mathlib.Numerals.{add-one}
+use Prim.Native.Nat.{ℕ, zero, suc, _+_, _-_, _≤_, _<_}
 use native.Mathlib.Omega.{arith}
-use mathlib.Core.Path.{_≡_, refl, sym, ap, _∙_}
-use mathlib.Core.Logic.{_↔_}
-use mathlib.Core.Bool.{Bool, true, false, _&&_, and-eq-true-iff, true≢false}
-use mathlib.Core.List.{List, [], _∷_, _++_, map, List·Memᴰ, List·Memᴰ·head, List·Memᴰ·tail, Memᴰ·map}
+use mathlib.Core.Path.{_≡_, refl, ap, _∙_}
+use mathlib.Core.Bool.{Bool, true, false, _&&_, and-eq-true-iff}
+use mathlib.Core.List.{List, [], _∷_, map, List·Memᴰ, List·Memᴰ·head, Memᴰ·map}
 use lib.ListN.{length, length-map}
 use lib.Dec.{leb, ltb}
-use borrow.Author.Tests.{leb-true, le-leb, ltb-true, lt-ltb, le-ltb}
+use borrow.Author.Tests.{leb-true, le-leb}
 use Rattle.pattern.specs.declared.Pattern.{Pattern}
 use Rattle.matching.specs.Occurrence.{Occurs, at, wordAt}
 use Rattle.pattern.specs.Patterns.{takes, slotAt}
@@ -17,7 +14,7 @@ use Rattle.matching.specs.Collections.{Every, Pairwise, none, more}
 use Rattle.matching.specs.Laws.Collections.{every-of, every-map, every-mem, every-both, pairwise-append, map-every, map-pairwise}
 use Rattle.matching.specs.Occurrences.{Lex, here, after, places, occurrences}
 use Rattle.matching.specs.Laws.Enumeration.{places-mem, places-rise, occurrences-iff, occurrences-lex}
-use Rattle.matching.specs.Laws.Sums.{total, total-bound, gather, gather-mem, gather-every, length-gather}
+use Rattle.matching.specs.Laws.Sums.{total, gather, gather-mem, gather-every, length-gather}
 use Rattle.matching.specs.Laws.Ordering.{lex-unique}
 
 -- a list where the test holds, and none where not

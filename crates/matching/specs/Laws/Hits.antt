@@ -1,5 +1,5 @@
 -- What passing the tests leaves to know of a row, and of an occurrence; an excerpt is empty exactly where there is none.
-use Prim.Native.Nat.{ℕ, _+_, _-_, _≤_, _<_, min}
+use Prim.Native.Nat.{ℕ, _-_, _≤_}
 use native.Mathlib.Omega.{arith}
 use mathlib.Core.Path.{_≡_, refl, ap}
 use mathlib.Core.Logic.{_↔_}
@@ -9,7 +9,6 @@ use lib.ListN.{length, take, drop, length-take, length-drop}
 use lib.Dec.{eqb}
 use borrow.Author.Tests.{eqb-true, not-false}
 use Rattle.pattern.specs.declared.Pattern.{Pattern}
-use Rattle.pattern.specs.declared.refusal.Refusal.{Refusal}
 use Rattle.pattern.specs.declared.refusal.Refusal.the-variants.{RowLength}
 use Rattle.pattern.specs.declared.refusal.Verdict.{Verdict}
 use Rattle.pattern.specs.declared.refusal.Verdict.the-variants.{Accepted, Refused}

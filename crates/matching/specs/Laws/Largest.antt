@@ -1,22 +1,20 @@
 -- Demand 3 holds of the front and back lists of every accepted pattern and text, whatever its span limits.
-use Prim.Native.Nat.{ℕ, _+_, _≤_, _<_}
+use Prim.Native.Nat.{ℕ}
 use native.Mathlib.Omega.{arith}
 use mathlib.Core.Path.{_≡_, ap, _∙_}
-use mathlib.Core.List.{List, [], reverse}
+use mathlib.Core.List.{List, []}
 use lib.ListN.{length, getD, length-reverse}
 use Rattle.pattern.specs.declared.Pattern.{Pattern}
 use Rattle.pattern.specs.Accepted.{AcceptedInput}
 use Rattle.matching.specs.Occurrence.{Occurs, Apart}
-use Rattle.matching.specs.Collections.{Pairwise}
-use Rattle.matching.specs.Nonoverlap.{Nonoverlapping}
-use Rattle.matching.specs.Rows.{level, Before, NotAfter}
+use Rattle.matching.specs.Rows.{level, Before}
 use Rattle.matching.specs.Lists.{leftmost, rightmost}
 use Rattle.matching.specs.Largest.{Largest}
 use Rattle.matching.specs.Laws.Collections.{every-reverse, pairwise-map, pairwise-reverse, getD-reverse}
 use Rattle.matching.specs.Laws.Rows.{at-level}
 use Rattle.matching.specs.Laws.Lattice.{occurs-sublattice}
 use Rattle.matching.specs.Laws.Direction.{forwards, backwards}
-use Rattle.matching.specs.Laws.Bounding.{BoundedLattice, greedy-hits, greedy-apart, rising-hits, forward-longest, forward-earliest, backward-longest, backward-latest, equally-long}
+use Rattle.matching.specs.Laws.Bounding.{BoundedLattice, greedy-hits, greedy-apart, rising-hits, forward-longest, forward-earliest, backward-latest, equally-long}
 use Rattle.matching.specs.Laws.Extremes.{leftmost-front, fromLast, fromLast-back, rightmost-fromLast}
 
 apart-sym : (m : ℕ) (r s : List ℕ) → Apart m r s → Apart m s r

@@ -1,9 +1,9 @@
 -- The turned pattern faces the pattern in the text read from its end, and is as ready for a search.
-use Prim.Native.Nat.{ℕ, _+_, _-_, _≤_, _<_}
+use Prim.Native.Nat.{ℕ, _-_}
 use native.Mathlib.Omega.{arith}
 use mathlib.Core.List.{List, reverse}
 use mathlib.Core.Path.{_≡_}
-use lib.ListN.{length, length-reverse}
+use lib.ListN.{length-reverse}
 use Rattle.pattern.specs.declared.slot.Slot.{Slot}
 use Rattle.pattern.specs.declared.Pattern.{Pattern}
 use Rattle.pattern.specs.Patterns.{takes, slotAt}
