@@ -3,7 +3,8 @@ use native.Mathlib.Omega.{arith}
 use mathlib.Core.Path.{sym, _∙_}
 use lib.ListN.{length, take}
 use Rattle.cursors.specs.Machine.{nextServed, marksOf}
-use Rattle.cursors.proofs.Serving.{Admitted, admitted, given}
+use Rattle.cursors.specs.Laws.Admitting.{Admitted, admitted}
+use Rattle.cursors.proofs.Serving.{given}
 use borrow.Author.Needs.{needs}
 use Rattle.cursors.proofs.Cursors.next.Statement.{statement}
 use Rattle.cursors.proofs.Cursors.next.Tie as tie

@@ -2,7 +2,7 @@
 use native.Mathlib.Omega.{arith}
 use mathlib.Core.Path.{sym, _∙_}
 use Rattle.cursors.specs.Machine.{rewound}
-use Rattle.cursors.proofs.Serving.{KnownClient, known-client}
+use Rattle.cursors.specs.Laws.Admitting.{KnownClient, known-client}
 use borrow.Author.Needs.{needs}
 use Rattle.cursors.proofs.Cursors.rewind.Statement.{statement}
 use Rattle.cursors.proofs.Cursors.rewind.Tie as tie
