@@ -1,0 +1,5 @@
+-- What follows of the machine.
+pub mod Admitting
+pub mod Giving
+pub mod Numbering
+pub mod Running

@@ -1,0 +1,75 @@
+-- What a call of "next" gives and what it leaves alone.
+use Prim.Native.Nat.{ℕ, _-_, _≤_}
+use mathlib.Core.Path.{_≡_, refl, sym, ap, _∙_}
+use mathlib.Core.Bool.{Bool, true, false, false≢true}
+use mathlib.Core.Option.{Option, none, some}
+use mathlib.Core.List.{List}
+use lib.ListN.{length, take, replicate}
+use lib.Seq.{getD-set-other, take-append-seam}
+use Rattle.pattern.specs.declared.Pattern.{Pattern}
+use Rattle.pattern.specs.declared.refusal.Verdict.{Verdict}
+use Rattle.pattern.specs.declared.refusal.Verdict.the-variants.{Accepted, Refused}
+use Rattle.matching.specs.declared.searches.Outcome.{Outcome}
+use Rattle.matching.specs.declared.searches.Outcome.the-variants.{Found, Absent, Refused as NotSearched}
+use Rattle.matching.specs.Searches.{earliest}
+use Rattle.matching.specs.Answers.{sixteen}
+use Rattle.matching.specs.Laws.Extremes.{Earliest, earliest-some}
+use Rattle.cursors.specs.declared.Cursors.{Cursors}
+use Rattle.cursors.specs.Machine.{marksOf, clientVerdict, nextVerdict, servedBy, nextServed, rewoundBy, rewound, nowhere}
+use Rattle.cursors.specs.Calls.{served}
+use Rattle.cursors.specs.Laws.Admitting.{admitted}
+
+-- ---- what is given is the first occurrence past the client's marks
+
+pub first-sixteen : (row : List ℕ) {m : ℕ} → length row ≡ m → take m (sixteen row) ≡ row
+first-sixteen row e = ap (λ (k : ℕ). take k (sixteen row)) (sym e) ∙ take-append-seam row (replicate (16 - length row) 0)
+
+abbrev isFound : Outcome → Bool
+isFound Found = true
+isFound Absent = false
+isFound (NotSearched why) = false
+
+nearest-by : (v : Verdict) (o : Option (List ℕ)) (s : Cursors) (client : ℕ) (f : Pattern) (t marks : List ℕ) → (v ≡ Accepted → 1 ≤ f .count) → earliest f t marks ≡ o
+    → servedBy v o s client .outcome ≡ Found → Earliest f t marks (take (f .count) (servedBy v o s client .places))
+nearest-by Accepted (some row) s client f t marks h e q =
+    let nearest = earliest-some f t (h refl) marks row .0 e in
+    rw (first-sixteen row (nearest .hit .size)) nearest
+nearest-by Accepted none s client f t marks h e q = absurd (false≢true (ap isFound q))
+nearest-by (Refused why) o s client f t marks h e q = absurd (false≢true (ap isFound q))
+
+pub next-nearest : (s : Cursors) (client : ℕ) (f : Pattern) (t : List ℕ) → nextServed s client f t .outcome ≡ Found
+    → Earliest f t (take (f .count) (marksOf s client .places)) (take (f .count) (nextServed s client f t .places))
+unfolding nextServed
+next-nearest s client f t q =
+    let marks = take (f .count) (marksOf s client .places) in
+    nearest-by (nextVerdict f (length t) client (s .served)) (earliest f t marks) s client f t marks (λ e. admitted e .some) refl q
+
+-- ---- what changes nothing
+
+kept-by : (v : Verdict) (o : Option (List ℕ)) (s : Cursors) (client : ℕ) → (servedBy v o s client .outcome ≡ Found → ⊥) → servedBy v o s client .cursors ≡ s
+kept-by Accepted (some row) s client h = absurd (h refl)
+kept-by Accepted none s client h = refl
+kept-by (Refused why) o s client h = refl
+
+-- "none" and a refusal
+pub next-kept : (s : Cursors) (client : ℕ) (f : Pattern) (t : List ℕ) → (nextServed s client f t .outcome ≡ Found → ⊥) → nextServed s client f t .cursors ≡ s
+unfolding nextServed
+next-kept s client f t h = kept-by (nextVerdict f (length t) client (s .served)) (earliest f t (take (f .count) (marksOf s client .places))) s client h
+
+rewound-by : (v : Verdict) (s : Cursors) (client : ℕ) → (rewoundBy v s client .verdict ≡ Accepted → ⊥) → rewoundBy v s client .cursors ≡ s
+rewound-by Accepted s client h = absurd (h refl)
+rewound-by (Refused why) s client h = refl
+
+pub rewind-kept : (s : Cursors) (client : ℕ) → (rewound s client .verdict ≡ Accepted → ⊥) → rewound s client .cursors ≡ s
+unfolding rewound
+rewind-kept s client h = rewound-by (clientVerdict client) s client h
+
+-- the marks of the other clients
+other-by : (v : Verdict) (o : Option (List ℕ)) (s : Cursors) (client other : ℕ) → (other - 1 ≡ client - 1 → ⊥) → marksOf (servedBy v o s client .cursors) other ≡ marksOf s other
+other-by Accepted (some row) s client other h = getD-set-other (s .marks) (client - 1) (other - 1) _ nowhere h
+other-by Accepted none s client other h = refl
+other-by (Refused why) o s client other h = refl
+
+pub other-kept : (s : Cursors) (client other : ℕ) (f : Pattern) (t : List ℕ) → (other - 1 ≡ client - 1 → ⊥) → marksOf (nextServed s client f t .cursors) other ≡ marksOf s other
+unfolding nextServed
+other-kept s client other f t h = other-by (nextVerdict f (length t) client (s .served)) (earliest f t (take (f .count) (marksOf s client .places))) s client other h
