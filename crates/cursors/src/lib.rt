@@ -169,9 +169,9 @@ impl Cursors {
                 verdict: Verdict::Refused(why),
             };
         }
-        let k = client - 1;
+        let index = client - 1;
         let mut all = self.marks;
-        all[k] = Marks { places: [0u16; 16] };
+        all[index] = Marks { places: [0u16; 16] };
         Rewound {
             cursors: Cursors {
                 marks: all,

@@ -2,7 +2,6 @@
 use Prim.Native.Nat.{ℕ, _≤_, _<_}
 use native.Mathlib.Omega.{arith}
 use mathlib.Core.Path.{_≡_}
-use mathlib.Core.Option.{some}
 use lib.Dec.{leb, ltb, eqb}
 use borrow.Author.Tests.{leb-false, ltb-false, eqb-false}
 use Rattle.pattern.specs.declared.Pattern.{Pattern}
@@ -12,7 +11,6 @@ use Rattle.pattern.specs.declared.refusal.Verdict.the-variants.{Accepted}
 use Rattle.pattern.specs.Tests.{refuse, andThen, inputVerdict}
 use Rattle.pattern.specs.Laws.Accepting.{input-accepted, then-accepted, refuse-accepted}
 use Rattle.cursors.specs.Machine.{clientVerdict, nextVerdict}
-use Rattle.cursors.specs.Calls.{served}
 
 pub record KnownClient (client : ℕ) : Type 0 where
   pub first : 1 ≤ client

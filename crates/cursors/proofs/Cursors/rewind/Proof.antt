@@ -23,8 +23,8 @@ returns c = simp (sym (c .before .before .before .client-verdict .ensures) ∙ c
 enum-told : tie.Need-enum-told
 enum-told c = search needs
 
-sub-k : tie.Need-sub-k
-sub-k c = known c .first
+sub-index : tie.Need-sub-index
+sub-index c = let h = known c in omega (arith, h .first, h .last)
 
 mul-all : tie.Need-mul-all
 mul-all c = let h = known (c .before) in omega (arith, h .first, h .last)
@@ -44,7 +44,7 @@ rewind-spec =
     enum-known-verdict
     returns
     enum-told
-    sub-k
+    sub-index
     mul-all
     array-set-from-all
     returns-2)
