@@ -10,7 +10,7 @@ use Rattle.pattern.specs.declared.refusal.Verdict.the-variants.{Accepted}
 use Rattle.pattern.specs.declared.refusal.Verdict.the-variants.{Refused as Turned}
 use Rattle.pattern.specs.Tests.{pick, inputVerdict}
 use Rattle.matching.specs.Occurrences.{occurrences}
-use Rattle.matching.specs.Written.{written}
+use Rattle.matching.specs.Answers.{filled}
 use Rattle.matching.specs.declared.rows.Listed.{Listed}
 use Rattle.matching.specs.declared.rows.Listed.the-variants.{Rows}
 use Rattle.matching.specs.declared.rows.Listed.the-variants.{Refused as Unlisted}
@@ -39,10 +39,6 @@ listedAfter (Turned why) rows m n = Unlisted why
 abbrev pub allListed : Pattern → List ℕ → ℕ → Listed
 allListed f t n = listedAfter (inputVerdict f (length t)) (length (occurrences f t)) (f .count) n
 
--- a list that was to hold what is written: as it was where nothing is listed
-abbrev pub listAfter : Listed → List ℕ → List ℕ → List ℕ
-listAfter (Rows rows) w l = w
-listAfter (Unlisted why) w l = l
-
+-- the caller's list at the end
 abbrev pub allWritten : Pattern → List ℕ → List ℕ → List ℕ
-allWritten f t l = listAfter (allListed f t (length l)) (written (f .count) (occurrences f t) l) l
+allWritten f t l = filled (inputVerdict f (length t)) (f .count) (occurrences f t) l

@@ -37,6 +37,7 @@ pub record Ended (M : List ℕ) (at first n from : ℕ) (H L : List ℕ) : Type 
   pub row : (i : ℕ) → i < n → val H L i ≡ when (marked M (at + i) && leb from (first + i + 1)) 1
   pub stop : val H L n ≡ 0
 
+-- the numbers fall, or stay, from place to place
 pub record Falling (n : ℕ) (H L : List ℕ) : Type 0 where
   pub falls : (a b : ℕ) → a ≤ b → b ≤ n → val H L b ≤ val H L a
 
@@ -58,6 +59,7 @@ pub record Summed (n : ℕ) (H L H′ L′ : List ℕ) : Type 0 where
 unfoldable pub size : Pattern → ℕ → ℕ → ℕ → ℕ
 size f n more j = min n (more + far f j + 1)
 
+-- the place after the last of the row of slot j
 unfoldable pub stopAt : Pattern → ℕ → ℕ → ℕ → ℕ → ℕ
 stopAt f first n more j = first + size f n more j + 1
 

@@ -16,11 +16,13 @@ ghost use Rattle.matching.specs.Answers.{searched};
 ghost use Rattle.cursors.specs.Machine.{fresh, marksOver, moved, clientVerdict, nextVerdict, keptBy, nextServed, rewound};
 
 // How far a client has come: one mark for each slot that a pattern may have.
+#[repr(C)]
 pub struct Marks {
     pub places: [u16; 16],
 }
 
 // The marks of clients 1 to 4, and how many occurrences were served to all of them (document 01: handed out).
+#[repr(C)]
 pub struct Cursors {
     pub marks: [Marks; 4],
     pub served: usize,

@@ -7,4 +7,5 @@ pub mod Orders
 pub mod PatternPrinted
 pub mod PatternShown
 pub mod Reading
+pub mod Input
 pub mod Examples

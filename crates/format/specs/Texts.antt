@@ -39,6 +39,11 @@ unfoldable pub textContents : List ℕ → TextContents
 textContents [] = words []
 textContents (b ∷ s) = ofLines (lines (b ∷ s)) (ended (b ∷ s) 10)
 
+-- the words; none where the layout is refused
+abbrev pub shownWords : TextContents → List ℕ
+shownWords (words ws) = ws
+shownWords (refused why) = []
+
 -- ---- the answer, with room for so many words: 12, layout, 6, 13
 
 abbrev pub textAnswer : TextContents → ℕ → TextRead

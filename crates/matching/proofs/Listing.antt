@@ -1,10 +1,9 @@
 -- The list calls as equations: the rows that were found are the front list or, turned round, the back list. Assumes nothing.
-use Prim.Native.Nat.{ℕ, zero, suc, _+_, _*_, _≤_, _<_}
+use Prim.Native.Nat.{ℕ, _+_, _*_, _≤_, _<_}
 use native.Mathlib.Omega.{arith}
 use native.Mathlib.Nat.{mul-le-mul-right}
 use mathlib.Core.List.{List, _++_, map, reverse}
 use mathlib.Core.Bool.{Bool, true, false}
-use mathlib.Core.Option.{Option, none as nothing, some as just}
 use mathlib.Core.Path.{_≡_, refl, sym, ap, _∙_}
 use lib.ListN.{length, take, drop, length-map, length-reverse}
 use lib.Seq.{take-at, drop-at}
@@ -15,7 +14,7 @@ use Rattle.pattern.specs.declared.refusal.Verdict.the-variants.{Accepted}
 use Rattle.pattern.specs.Laws.Accepting.{input-accepted}
 use Rattle.matching.specs.declared.rows.Listed.the-variants.{Rows, Refused}
 use Rattle.matching.specs.Collections.{Every}
-use Rattle.matching.specs.Lists.{onward, follow, leftmost}
+use Rattle.matching.specs.Lists.{leftmost}
 use Rattle.matching.specs.Written.{flat, written}
 use Rattle.matching.specs.Answers.{listed, filled, Best}
 use Rattle.matching.specs.Steps.Settling.{Ready}
@@ -26,26 +25,13 @@ use Rattle.matching.specs.Laws.Direction.{forwards}
 use Rattle.matching.specs.Laws.Bounding.{greedy-hits}
 use Rattle.matching.specs.Laws.Extremes.{leftmost-front, back-unique}
 use Rattle.matching.specs.Laws.Largest.{largest}
+use Rattle.matching.specs.Laws.Lengths.{leftmost-length}
 use Rattle.matching.specs.Laws.Mirror.{length-seen, front-back-list}
 use Rattle.matching.specs.Laws.Turning.{turned-facing, turned-ready}
 use Rattle.matching.proofs.Writing.{length-flat}
 use Rattle.matching.proofs.Reversing.{flat-reversed}
 
--- ---- as many rows as words at the most
-
-onward-length : (o : Option (List ℕ)) (rest : List ℕ → List (List ℕ)) (n : ℕ) → ((r : List ℕ) → length (rest r) ≤ n) → length (onward o rest) ≤ suc n
-unfolding onward
-onward-length nothing rest n h = omega arith
-onward-length (just r) rest n h = omega (arith, h r)
-
-follow-length : (search : List ℕ → Option (List ℕ)) (n : ℕ) (marks : List ℕ) → length (follow search n marks) ≤ n
-unfolding follow
-follow-length search zero marks = omega arith
-follow-length search (suc n) marks = onward-length (search marks) (λ r. follow search n r) n (λ r. follow-length search n r)
-
-leftmost-length : (g : Pattern) (u : List ℕ) → length (leftmost g u) ≤ length u
-unfolding leftmost
-leftmost-length g u = follow-length _ (length u) _
+-- ---- room
 
 -- a list with an entry for each word and slot has room for them
 pub room-always : (g : Pattern) (b : Bool) (t : List ℕ) {m size : ℕ} → g .count ≡ m → length t * m ≤ size → length (leftmost g (seen b t)) * g .count ≤ size

@@ -8,6 +8,7 @@ use lib.ListN.{length}
 use borrow.Author.Count.{below-more}
 use Rattle.pattern.specs.declared.Pattern.{Pattern}
 use Rattle.pattern.specs.Patterns.{takes, slotAt}
+use Rattle.pattern.specs.Laws.Accepting.{is-false}
 use Rattle.matching.specs.Occurrence.{at}
 use Rattle.matching.specs.Occurrences.{occurs}
 use Rattle.matching.specs.Steps.Testing.{Decides, PlaceFits, GapFits, SpanFits, WordsFit, GapsFit}
@@ -18,10 +19,6 @@ decides-true p = record { yes = λ _. p; no = λ e. absurd (true≢false e) }
 
 pub decides-false : {P : Type 0} → (P → ⊥) → Decides false P
 decides-false n = record { yes = λ e. absurd (false≢true e); no = λ _ p. n p }
-
-is-false : (b : Bool) → (b ≡ true → ⊥) → b ≡ false
-is-false true h = absurd (h refl)
-is-false false h = refl
 
 module _ (f : Pattern) (t r : List ℕ) where
   pub no-words : (WordsFit f t r → ⊥) → occurs f t r ≡ false

@@ -14,6 +14,7 @@ pub use slot::Slot;
 pub use slot::lists;
 
 // A pattern with gap and length constraints (document 01: frame; 004, Definition 2).
+#[repr(C)]
 pub struct Pattern {
     pub slots: [Slot; 16],
     pub count: usize,

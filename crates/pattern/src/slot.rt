@@ -4,6 +4,7 @@ ghost use lib.ListN.{take};
 ghost use Prim.Native.Nat.{min};
 
 // One element of a pattern (document 01: slot): the words it takes and the gap before it.
+#[repr(C)]
 pub struct Slot {
     pub words: [u16; 8],
     pub count: usize,

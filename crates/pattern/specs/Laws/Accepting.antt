@@ -42,7 +42,8 @@ accepted-then (Refused why) later e f = absurd (refused-fine e)
 
 -- ---- a slot
 
-is-false : (b : Bool) → (b ≡ true → ⊥) → b ≡ false
+-- what cannot be true is false
+pub is-false : (b : Bool) → (b ≡ true → ⊥) → b ≡ false
 is-false true h = absurd (h refl)
 is-false false h = refl
 

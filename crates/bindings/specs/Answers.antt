@@ -1,0 +1,106 @@
+-- An answer as C reads it: the refusal's number and place, 0 and 0 where nothing is refused, and the answer's own numbers.
+use Prim.Native.Nat.{ℕ}
+use mathlib.Core.List.{List}
+use lib.ListN.{length, getD, replicate}
+use Rattle.pattern.specs.declared.Extended.{Extended}
+use Rattle.pattern.specs.declared.refusal.Refusal.{Refusal}
+use Rattle.pattern.specs.declared.refusal.Verdict.{Verdict}
+use Rattle.pattern.specs.declared.refusal.Verdict.the-variants.{Accepted, Refused}
+use Rattle.pattern.specs.Refusals.{numberOf, placeOf}
+use Rattle.matching.specs.declared.rows.Listed.{Listed}
+use Rattle.matching.specs.declared.rows.Listed.the-variants.{Rows, Refused as NotListed}
+use Rattle.matching.specs.declared.hits.Tested.{Tested}
+use Rattle.matching.specs.declared.hits.Tested.the-variants.{Yes, No, Refused as NotTested}
+use Rattle.matching.specs.declared.searches.Outcome.{Outcome}
+use Rattle.matching.specs.declared.searches.Outcome.the-variants.{Found as Hit, Absent, Refused as NotSearched}
+use Rattle.matching.specs.declared.searches.Search.{Search}
+use Rattle.counting.specs.declared.total.Tallied.{Tallied}
+use Rattle.counting.specs.declared.total.Tallied.the-variants.{Total, Refused as NotTallied}
+use Rattle.format.specs.declared.patterns.PatternRead.{PatternRead}
+use Rattle.format.specs.declared.texts.TextRead.{TextRead}
+use Rattle.format.specs.declared.texts.TextRead.the-variants.{Words, Refused as NoText}
+use Rattle.cursors.specs.declared.Served.{Served}
+use Rattle.cursors.specs.declared.Rewound.{Rewound}
+use Rattle.bindings.specs.declared.answers.Answer.{Answer}
+use Rattle.bindings.specs.declared.answers.Made.{Made}
+use Rattle.bindings.specs.declared.answers.Found.{Found}
+use Rattle.bindings.specs.declared.answers.Excerpted.{Excerpted}
+use Rattle.bindings.specs.declared.answers.ServedTo.{ServedTo}
+
+-- ---- one number
+
+abbrev pub refused : Refusal → Answer
+refused why = record { number = numberOf why; place = placeOf why; value = 0 }
+
+abbrev pub value : ℕ → Answer
+value n = record { number = 0; place = 0; value = n }
+
+abbrev pub ofVerdict : Verdict → Answer
+ofVerdict Accepted = value 0
+ofVerdict (Refused why) = refused why
+
+abbrev pub ofListed : Listed → Answer
+ofListed (Rows rows) = value rows
+ofListed (NotListed why) = refused why
+
+abbrev pub ofTallied : Tallied → Answer
+ofTallied (Total total) = value total
+ofTallied (NotTallied why) = refused why
+
+abbrev pub ofTextRead : TextRead → Answer
+ofTextRead (Words n) = value n
+ofTextRead (NoText why) = refused why
+
+-- 1 for yes, 0 for no
+abbrev pub ofTested : Tested → Answer
+ofTested Yes = value 1
+ofTested No = value 0
+ofTested (NotTested why) = refused why
+
+-- 1 for found, 0 for none
+abbrev pub ofOutcome : Outcome → Answer
+ofOutcome Hit = value 1
+ofOutcome Absent = value 0
+ofOutcome (NotSearched why) = refused why
+
+-- ---- with what else a call gives
+
+abbrev pub ofExtended : Extended → Made
+ofExtended r = record { number = ofVerdict (r .verdict) .number; place = ofVerdict (r .verdict) .place; pattern = r .pattern }
+
+abbrev pub ofPatternRead : PatternRead → Made
+ofPatternRead r = record { number = ofVerdict (r .verdict) .number; place = ofVerdict (r .verdict) .place; pattern = r .pattern }
+
+abbrev pub ofSearch : Search → Found
+ofSearch r =
+    record {
+      number = ofOutcome (r .outcome) .number;
+      place = ofOutcome (r .outcome) .place;
+      found = ofOutcome (r .outcome) .value;
+      places = r .places;
+    }
+
+-- the words, and the one at the index, or 0 past their end
+abbrev pub ofExcerpt : List ℕ → ℕ → Excerpted
+ofExcerpt ws i = record { length = length ws; word = getD ws i 0 }
+
+abbrev pub ofServed : Served → ServedTo
+ofServed r =
+    record {
+      cursors = r .cursors;
+      number = ofOutcome (r .outcome) .number;
+      place = ofOutcome (r .outcome) .place;
+      found = ofOutcome (r .outcome) .value;
+      places = r .places;
+    }
+
+-- rewinding finds nothing
+abbrev pub ofRewound : Rewound → ServedTo
+ofRewound r =
+    record {
+      cursors = r .cursors;
+      number = ofVerdict (r .verdict) .number;
+      place = ofVerdict (r .verdict) .place;
+      found = 0;
+      places = replicate 16 0;
+    }

@@ -1,0 +1,3 @@
+-- What the exported calls answer, as plain numbers.
+pub mod Answers
+pub mod Counts

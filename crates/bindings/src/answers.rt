@@ -1,0 +1,115 @@
+use cursors::Cursors;
+use matching::Listed;
+use matching::Outcome;
+use matching::Tested;
+use pattern::Pattern;
+use pattern::Refusal;
+use pattern::Verdict;
+ghost use mathlib.Core.Path.{_≡_};
+ghost use Rattle.bindings.specs.Answers.{refused, value, ofVerdict, ofListed, ofTested, ofOutcome};
+
+// An answer, or a refusal's number with its place; then the value is 0.
+#[repr(C)]
+pub struct Answer {
+    pub number: u32,
+    pub place: usize,
+    pub value: u64,
+}
+
+// A pattern, beside a refusal's number with its place.
+#[repr(C)]
+pub struct Made {
+    pub number: u32,
+    pub place: usize,
+    pub pattern: Pattern,
+}
+
+// What a search found: 1 and its places, or 0 and places of 0.
+#[repr(C)]
+pub struct Found {
+    pub number: u32,
+    pub place: usize,
+    pub found: u64,
+    pub places: [u16; 16],
+}
+
+// How long an excerpt is, and one of its words.
+#[repr(C)]
+pub struct Excerpted {
+    pub length: usize,
+    pub word: u16,
+}
+
+// The state that a client's call leaves, beside what it found.
+#[repr(C)]
+pub struct ServedTo {
+    pub cursors: Cursors,
+    pub number: u32,
+    pub place: usize,
+    pub found: u64,
+    pub places: [u16; 16],
+}
+
+// A refusal as numbers.
+pub(crate) fn refused(why: Refusal) -> Answer
+    ensures { λ r. ⌜ r ≡ refused why ⌝ }
+{
+    Answer {
+        number: why.number(),
+        place: why.place(),
+        value: 0,
+    }
+}
+
+// An answer that is not refused.
+pub(crate) fn value(n: u64) -> Answer
+    ensures { λ r. ⌜ r ≡ value n ⌝ }
+{
+    Answer {
+        number: 0,
+        place: 0,
+        value: n,
+    }
+}
+
+// A verdict as numbers.
+pub(crate) fn of_verdict(verdict: Verdict) -> Answer
+    ensures { λ r. ⌜ r ≡ ofVerdict verdict ⌝ }
+{
+    match verdict {
+        Verdict::Accepted => value(0),
+        Verdict::Refused(why) => refused(why),
+    }
+}
+
+// What a list call answered, as numbers.
+pub(crate) fn of_listed(listed: Listed) -> Answer
+    ensures { λ r. ⌜ r ≡ ofListed listed ⌝ }
+{
+    match listed {
+        Listed::Rows(rows) => value(rows as u64),
+        Listed::Refused(why) => refused(why),
+    }
+}
+
+// What the test of a row answered, as numbers.
+pub(crate) fn of_tested(tested: Tested) -> Answer
+    ensures { λ r. ⌜ r ≡ ofTested tested ⌝ }
+{
+    match tested {
+        Tested::Yes => value(1),
+        Tested::No => value(0),
+        Tested::Refused(why) => refused(why),
+    }
+}
+
+// What a search came to, as numbers.
+pub(crate) fn of_outcome(outcome: Outcome) -> Answer
+    ensures { λ r. ⌜ r ≡ ofOutcome outcome ⌝ }
+{
+    match outcome {
+        Outcome::Found => value(1),
+        Outcome::Absent => value(0),
+        Outcome::Refused(why) => refused(why),
+    }
+}

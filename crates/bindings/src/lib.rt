@@ -1,0 +1,30 @@
+// The library's calls for C and Rust: `extern "C"` functions on slices and plain structs (include/bedbloomer.h).
+mod answers;
+mod files;
+mod lists;
+mod making;
+mod rows;
+mod serving;
+
+pub use answers::Answer;
+pub use answers::Excerpted;
+pub use answers::Found;
+pub use answers::Made;
+pub use answers::ServedTo;
+pub use files::bedbloomer_count;
+pub use files::bedbloomer_read_pattern;
+pub use files::bedbloomer_read_text;
+pub use lists::bedbloomer_all;
+pub use lists::bedbloomer_leftmost;
+pub use lists::bedbloomer_rightmost;
+pub use lists::bedbloomer_support;
+pub use lists::bedbloomer_tally;
+pub use making::bedbloomer_check;
+pub use making::bedbloomer_pattern_of;
+pub use making::bedbloomer_with_slot;
+pub use rows::bedbloomer_excerpt;
+pub use rows::bedbloomer_first_after;
+pub use rows::bedbloomer_is_occurrence;
+pub use rows::bedbloomer_last_before;
+pub use serving::bedbloomer_next;
+pub use serving::bedbloomer_rewind;

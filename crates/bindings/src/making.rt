@@ -1,0 +1,42 @@
+use crate::answers::Answer;
+use crate::answers::Made;
+use crate::answers::of_verdict;
+use pattern::Pattern;
+ghost use mathlib.Core.Path.{_≡_};
+ghost use Rattle.pattern.specs.Patterns.{emptyPattern, withSpan};
+ghost use Rattle.pattern.specs.Adding.{extended};
+ghost use Rattle.pattern.specs.Tests.{inputVerdict};
+ghost use Rattle.bindings.specs.Answers.{ofVerdict, ofExtended};
+
+// The pattern without slots that has these span limits.
+#[no_mangle]
+pub extern "C" fn bedbloomer_pattern_of(least: u16, most: u16) -> Pattern
+    ensures { λ r. ⌜ r ≡ withSpan emptyPattern least most ⌝ }
+{
+    let start = Pattern::new();
+    start.with_span(least, most)
+}
+
+// The pattern with one slot more.
+#[no_mangle]
+pub extern "C" fn bedbloomer_with_slot(pattern: Pattern, low: u16, high: u16, words: &[u16]) -> Made
+    ensures { λ r. ⌜ r ≡ ofExtended (extended pattern low high (now (words .entry))) ⌝ }
+{
+    let added = pattern.with_slot(low, high, words);
+    let verdict = added.verdict;
+    let told = of_verdict(verdict);
+    let longer = added.pattern;
+    Made {
+        number: told.number,
+        place: told.place,
+        pattern: longer,
+    }
+}
+
+// The first of the tests 1 to 6 that the pattern and a text of so many words fail.
+#[no_mangle]
+pub extern "C" fn bedbloomer_check(pattern: Pattern, words: usize) -> Answer
+    ensures { λ r. ⌜ r ≡ ofVerdict (inputVerdict pattern words) ⌝ }
+{
+    of_verdict(pattern.check_with(words))
+}
