@@ -18,7 +18,8 @@ pub extern "C" fn bedbloomer_leftmost(pattern: Pattern, text: &[u16], list: &mut
     ensures { λ r. ⌜ r ≡ ofListed (listed (inputVerdict pattern (length (now (text .entry)))) (pattern .count) (leftmost pattern (now (text .entry))) (length (now (list .entry)))) ⌝ }
     ensures { λ _. ⌜ now (list .exit) ≡ filled (inputVerdict pattern (length (now (text .entry)))) (pattern .count) (leftmost pattern (now (text .entry))) (now (list .entry)) ⌝ }
 {
-    of_listed(matching::leftmost(pattern, text, list))
+    let leftmost = matching::leftmost(pattern, text, list);
+    of_listed(leftmost)
 }
 
 // The back list.
@@ -27,7 +28,8 @@ pub extern "C" fn bedbloomer_rightmost(pattern: Pattern, text: &[u16], list: &mu
     ensures { λ r. ⌜ r ≡ ofListed (listed (inputVerdict pattern (length (now (text .entry)))) (pattern .count) (rightmost pattern (now (text .entry))) (length (now (list .entry)))) ⌝ }
     ensures { λ _. ⌜ now (list .exit) ≡ filled (inputVerdict pattern (length (now (text .entry)))) (pattern .count) (rightmost pattern (now (text .entry))) (now (list .entry)) ⌝ }
 {
-    of_listed(matching::rightmost(pattern, text, list))
+    let rightmost = matching::rightmost(pattern, text, list);
+    of_listed(rightmost)
 }
 
 // All occurrences.
@@ -36,7 +38,8 @@ pub extern "C" fn bedbloomer_all(pattern: Pattern, text: &[u16], list: &mut [u16
     ensures { λ r. ⌜ r ≡ ofListed (allListed pattern (now (text .entry)) (length (now (list .entry)))) ⌝ }
     ensures { λ _. ⌜ now (list .exit) ≡ allWritten pattern (now (text .entry)) (now (list .entry)) ⌝ }
 {
-    of_listed(counting::all(pattern, text, list))
+    let all = counting::all(pattern, text, list);
+    of_listed(all)
 }
 
 // The count.
@@ -44,7 +47,8 @@ pub extern "C" fn bedbloomer_all(pattern: Pattern, text: &[u16], list: &mut [u16
 pub extern "C" fn bedbloomer_support(pattern: Pattern, text: &[u16]) -> Answer
     ensures { λ r. ⌜ r ≡ ofListed (counted (inputVerdict pattern (length (now (text .entry)))) (leftmost pattern (now (text .entry)))) ⌝ }
 {
-    of_listed(matching::support(pattern, text))
+    let support = matching::support(pattern, text);
+    of_listed(support)
 }
 
 // The number of all occurrences.

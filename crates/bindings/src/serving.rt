@@ -38,12 +38,12 @@ pub extern "C" fn bedbloomer_rewind(cursors: Cursors, client: usize) -> ServedTo
 {
     let rewound = cursors.rewind(client);
     let verdict = rewound.verdict;
-    let told = of_verdict(verdict);
-    let after = rewound.cursors;
+    let said = of_verdict(verdict);
+    let left = rewound.cursors;
     ServedTo {
-        cursors: after,
-        number: told.number,
-        place: told.place,
+        cursors: left,
+        number: said.number,
+        place: said.place,
         found: 0,
         places: [0u16; 16],
     }

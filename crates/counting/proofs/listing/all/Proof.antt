@@ -38,7 +38,7 @@ returns-2 : tie.Need-returns-2
 returns-2 c = let f = c .before .before .before .before .before .before .before .before .before .before .before .before .args .pattern in let t = c .before .before .before .before .before .before .before .before .before .before .before .before .args .text .now in let l = c .before .before .before .before .before .before .before .before .before .before .before .before .args .list .now in let e = sym (c .before .before .before .before .before .before .before .before .before .check-with .ensures) ∙ c .before .before .before .before .before .before .before .enum-told .given .1 in let ok = passed t e in let s : length l < 2 ^ 64 = omega arith in all-short f t l e (all-wide f t l (ok .pattern .some) (c .before .before .count .result) (c .before .before .count .ensures) (c .if1 .taken) s)
 
 div-if2 : tie.Need-div-if2
-div-if2 c = let f = c .before .before .before .before .before .before .before .before .before .before .before .before .before .args .pattern in let t = c .before .before .before .before .before .before .before .before .before .before .before .before .before .args .text .now in let l = c .before .before .before .before .before .before .before .before .before .before .before .before .before .args .list .now in let e = sym (c .before .before .before .before .before .before .before .before .before .before .check-with .ensures) ∙ c .before .before .before .before .before .before .before .before .enum-told .given .1 in let ok = passed t e in omega (arith, ok .pattern .some)
+div-if2 c = let t = c .before .before .before .before .before .before .before .before .before .before .before .before .before .args .text .now in let e = sym (c .before .before .before .before .before .before .before .before .before .before .check-with .ensures) ∙ c .before .before .before .before .before .before .before .before .enum-told .given .1 in let ok = passed t e in omega (arith, ok .pattern .some)
 
 returns-3 : tie.Need-returns-3
 returns-3 c = let f = c .before .before .before .before .before .before .before .before .before .before .before .before .before .before .args .pattern in let t = c .before .before .before .before .before .before .before .before .before .before .before .before .before .before .args .text .now in let l = c .before .before .before .before .before .before .before .before .before .before .before .before .before .before .args .list .now in let e = sym (c .before .before .before .before .before .before .before .before .before .before .before .check-with .ensures) ∙ c .before .before .before .before .before .before .before .before .before .enum-told .given .1 in let ok = passed t e in all-short f t l e (all-over f t l (ok .pattern .some) (c .before .before .before .before .count .result) (c .before .before .before .before .count .ensures) (c .before .before .if1 .left) (c .if2 .taken))

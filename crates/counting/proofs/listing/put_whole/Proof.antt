@@ -7,7 +7,7 @@ use Rattle.counting.proofs.listing.put_whole.Statement.{statement}
 use Rattle.counting.proofs.listing.put_whole.Tie as tie
 
 reach-all-requires : tie.Need-reach-all-requires
-reach-all-requires c κs = let a = (c .before .before .before .before .before .args) in let ok = c .before .before .before .before .before .pre .0 in let mk = c .before .before .before .before .before .pre .1 .0 in let g = c .before .before .before .before .before .pre .1 .1 in let short = ok .short in (ok, (mk, (omega arith, omega arith, g .1, g .2)))
+reach-all-requires c κs = let ok = c .before .before .before .before .before .pre .0 in let mk = c .before .before .before .before .before .pre .1 .0 in let g = c .before .before .before .before .before .pre .1 .1 in (ok, (mk, (omega arith, omega arith, g .1, g .2)))
 
 lows-requires : tie.Need-lows-requires
 lows-requires c κs = c .before .before .before .before .before .before .before .before .pre .0 .pattern .few
@@ -22,7 +22,7 @@ slice-aggregate-walk-2 : tie.Need-slice-aggregate-walk-2
 slice-aggregate-walk-2 c = search needs
 
 walk-requires : tie.Need-walk-requires
-walk-requires c κs = let a = (c .before .before .before .before .before .before .before .before .before .before .before .before .before .before .args) in let ok = c .before .before .before .before .before .before .before .before .before .before .before .before .before .before .pre .0 in let mk = c .before .before .before .before .before .before .before .before .before .before .before .before .before .before .pre .1 .0 in let g = c .before .before .before .before .before .before .before .before .before .before .before .before .before .before .pre .1 .1 in let short = ok .short in let n = length (a .t .now) in whole-walk ok (g .0) (a .list .now) (leading (a .f) (a .t .now) 0 n n 0 ok (omega arith) (c .before .before .before .before .before .before .before .before .reach-all .ensures) (c .before .before .before .before .before .lows .ensures) (c .before .before .before .before .highs .ensures) (omega (arith, c .before .before .before .before .before .before .before .before .reach-all .kept .1 .1 .1 .1 .1 .1 .1 .1 .0, g .2))) (g .3)
+walk-requires c κs = let a = (c .before .before .before .before .before .before .before .before .before .before .before .before .before .before .args) in let ok = c .before .before .before .before .before .before .before .before .before .before .before .before .before .before .pre .0 in let g = c .before .before .before .before .before .before .before .before .before .before .before .before .before .before .pre .1 .1 in let n = length (a .t .now) in whole-walk ok (g .0) (a .list .now) (leading (a .f) (a .t .now) 0 n n 0 ok (omega arith) (c .before .before .before .before .before .before .before .before .reach-all .ensures) (c .before .before .before .before .before .lows .ensures) (c .before .before .before .before .highs .ensures) (omega (arith, c .before .before .before .before .before .before .before .before .reach-all .kept .1 .1 .1 .1 .1 .1 .1 .1 .0, g .2))) (g .3)
 
 same-length : tie.Need-same-length
 same-length c = search needs
@@ -31,7 +31,7 @@ same-length-2 : tie.Need-same-length-2
 same-length-2 c = search needs
 
 returns : tie.Need-returns
-returns c = let a = (c .before .before .before .before .before .before .before .before .before .before .before .before .before .before .before .before .before .args) in let ok = c .before .before .before .before .before .before .before .before .before .before .before .before .before .before .before .before .before .pre .0 in let mk = c .before .before .before .before .before .before .before .before .before .before .before .before .before .before .before .before .before .pre .1 .0 in let g = c .before .before .before .before .before .before .before .before .before .before .before .before .before .before .before .before .before .pre .1 .1 in let short = ok .short in let n = length (a .t .now) in let lead = leading (a .f) (a .t .now) 0 n n 0 ok (omega arith) (c .before .before .before .before .before .before .before .before .before .before .before .reach-all .ensures) (c .before .before .before .before .before .before .before .before .lows .ensures) (c .before .before .before .before .before .before .before .highs .ensures) (omega (arith, c .before .before .before .before .before .before .before .before .before .before .before .reach-all .kept .1 .1 .1 .1 .1 .1 .1 .1 .0, g .2)) in whole-written ok (g .0) (a .list .now) lead (g .3) (c .before .before .walk .ensures (whole-walk ok (g .0) (a .list .now) lead (g .3)))
+returns c = let a = (c .before .before .before .before .before .before .before .before .before .before .before .before .before .before .before .before .before .args) in let ok = c .before .before .before .before .before .before .before .before .before .before .before .before .before .before .before .before .before .pre .0 in let g = c .before .before .before .before .before .before .before .before .before .before .before .before .before .before .before .before .before .pre .1 .1 in let n = length (a .t .now) in let lead = leading (a .f) (a .t .now) 0 n n 0 ok (omega arith) (c .before .before .before .before .before .before .before .before .before .before .before .reach-all .ensures) (c .before .before .before .before .before .before .before .before .lows .ensures) (c .before .before .before .before .before .before .before .highs .ensures) (omega (arith, c .before .before .before .before .before .before .before .before .before .before .before .reach-all .kept .1 .1 .1 .1 .1 .1 .1 .1 .0, g .2)) in whole-written ok (g .0) (a .list .now) lead (g .3) (c .before .before .walk .ensures (whole-walk ok (g .0) (a .list .now) lead (g .3)))
 
 pub put-whole-spec : {M : Type 1} → statement M
 put-whole-spec =

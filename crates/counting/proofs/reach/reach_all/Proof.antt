@@ -19,34 +19,34 @@ sub-j : tie.Need-sub-j Inv-loop μ-loop
 sub-j c = search needs
 
 add-clip : tie.Need-add-clip Inv-loop μ-loop
-add-clip c = let a = (c .before .before .before .args) in let ok = c .before .before .before .pre .0 in let some = ok .pattern .some in let few = ok .pattern .few in let short = ok .short in let mk = c .before .before .before .pre .1 .0 in let g = c .before .before .before .pre .1 .1 in omega (arith, reach-bound ok (a .t1 .count - 1) (omega arith))
+add-clip c = let a = (c .before .before .before .args) in let ok = c .before .before .before .pre .0 in omega (arith, reach-bound ok (a .t1 .count - 1) (omega arith))
 
 add-clip-2 : tie.Need-add-clip-2 Inv-loop μ-loop
-add-clip-2 c = let a = (c .before .before .before .args) in let ok = c .before .before .before .pre .0 in let some = ok .pattern .some in let few = ok .pattern .few in let short = ok .short in let mk = c .before .before .before .pre .1 .0 in let g = c .before .before .before .pre .1 .1 in omega (arith, reach-bound ok (a .t1 .count - 1) (omega arith))
+add-clip-2 c = let a = (c .before .before .before .args) in let ok = c .before .before .before .pre .0 in omega (arith, reach-bound ok (a .t1 .count - 1) (omega arith))
 
 clip-requires : tie.Need-clip-requires Inv-loop μ-loop
 clip-requires c κs = search needs
 
 mul-reach-last : tie.Need-mul-reach-last Inv-loop μ-loop
-mul-reach-last c = let a = (c .before .before .before .before .args) in let ok = c .before .before .before .before .pre .0 in let some = ok .pattern .some in let few = ok .pattern .few in let short = ok .short in let mk = c .before .before .before .before .pre .1 .0 in let g = c .before .before .before .before .pre .1 .1 in omega arith
+mul-reach-last c = omega arith
 
 add-reach-last : tie.Need-add-reach-last Inv-loop μ-loop
-add-reach-last c = let a = (c .before .before .before .before .args) in let ok = c .before .before .before .before .pre .0 in let some = ok .pattern .some in let few = ok .pattern .few in let short = ok .short in let mk = c .before .before .before .before .pre .1 .0 in let g = c .before .before .before .before .pre .1 .1 in omega arith
+add-reach-last c = omega arith
 
 mul-reach-last-2 : tie.Need-mul-reach-last-2 Inv-loop μ-loop
-mul-reach-last-2 c = let a = (c .before .before .before .before .args) in let ok = c .before .before .before .before .pre .0 in let some = ok .pattern .some in let few = ok .pattern .few in let short = ok .short in let mk = c .before .before .before .before .pre .1 .0 in let g = c .before .before .before .before .pre .1 .1 in omega arith
+mul-reach-last-2 c = omega arith
 
 reach-last-requires : tie.Need-reach-last-requires Inv-loop μ-loop
-reach-last-requires c κs = let a = (c .before .before .before .before .before .args) in let ok = c .before .before .before .before .before .pre .0 in let some = ok .pattern .some in let few = ok .pattern .few in let short = ok .short in let mk = c .before .before .before .before .before .pre .1 .0 in let g = c .before .before .before .before .before .pre .1 .1 in let z = size-of (a .t1) (a .n) (a .more) (a .reach) (a .t1 .count - 1) (c .before .clip .ensures) (g .2) in let sz = mk .size in (omega arith, omega arith, omega arith, omega arith)
+reach-last-requires c κs = (omega arith, omega arith, omega arith, omega arith)
 
 loop-holds : tie.Need-loop-holds Inv-loop μ-loop
-loop-holds c = let a = (c .before .before .before .before .before .before .before .before .args) in let ok = c .before .before .before .before .before .before .before .before .pre .0 in let some = ok .pattern .some in let few = ok .pattern .few in let short = ok .short in let mk = c .before .before .before .before .before .before .before .before .pre .1 .0 in let g = c .before .before .before .before .before .before .before .before .pre .1 .1 in let z = size-of (a .t1) (a .n) (a .more) (a .reach) (a .t1 .count - 1) (c .before .before .before .before .clip .ensures) (g .2) in tabling-begin (a .t1) (a .t .now) (a .first) (a .n) (a .more) (a .from) mk some (g .0) (g .2) (z .0) (c .before .before .reach-last .ensures)
+loop-holds c = let a = (c .before .before .before .before .before .before .before .before .args) in let ok = c .before .before .before .before .before .before .before .before .pre .0 in let some = ok .pattern .some in let mk = c .before .before .before .before .before .before .before .before .pre .1 .0 in let g = c .before .before .before .before .before .before .before .before .pre .1 .1 in let z = size-of (a .t1) (a .n) (a .more) (a .reach) (a .t1 .count - 1) (c .before .before .before .before .clip .ensures) (g .2) in tabling-begin (a .t1) (a .t .now) (a .first) (a .n) (a .more) (a .from) mk some (g .0) (g .2) (z .0) (c .before .before .reach-last .ensures)
 
 mul-s : tie.Need-mul-s Inv-loop μ-loop
-mul-s c = let a = (c .before .before .before .before .before .before .before .before .before .before .args) in let ok = c .before .before .before .before .before .before .before .before .before .before .pre .0 in let some = ok .pattern .some in let few = ok .pattern .few in let short = ok .short in let mk = c .before .before .before .before .before .before .before .before .before .before .pre .1 .0 in let g = c .before .before .before .before .before .before .before .before .before .before .pre .1 .1 in let l = (c .before .loop) in let inv = l .inv in let i = inv .here .inside in let pos = c .loop-test .taken in omega arith
+mul-s c = omega arith
 
 element-copy-out-s : tie.Need-element-copy-out-s Inv-loop μ-loop
-element-copy-out-s c = let a = (c .before .before .before .before .before .before .before .before .before .before .args) in let ok = c .before .before .before .before .before .before .before .before .before .before .pre .0 in let some = ok .pattern .some in let few = ok .pattern .few in let short = ok .short in let mk = c .before .before .before .before .before .before .before .before .before .before .pre .1 .0 in let g = c .before .before .before .before .before .before .before .before .before .before .pre .1 .1 in let l = (c .before .loop) in let inv = l .inv in let i = inv .here .inside in let pos = c .loop-test .taken in omega arith
+element-copy-out-s c = omega arith
 
 widen-requires : tie.Need-widen-requires Inv-loop μ-loop
 widen-requires c κs = search needs
@@ -58,10 +58,10 @@ sub-j-2 : tie.Need-sub-j-2 Inv-loop μ-loop
 sub-j-2 c = search needs
 
 sub-r : tie.Need-sub-r Inv-loop μ-loop
-sub-r c = let a = (c .before .before .before .before .before .before .before .before .before .before .before .before .before .args) in let ok = c .before .before .before .before .before .before .before .before .before .before .before .before .before .pre .0 in let some = ok .pattern .some in let few = ok .pattern .few in let short = ok .short in let mk = c .before .before .before .before .before .before .before .before .before .before .before .before .before .pre .1 .0 in let g = c .before .before .before .before .before .before .before .before .before .before .before .before .before .pre .1 .1 in let l = (c .before .before .before .before .loop) in let inv = l .inv in let i = inv .here .inside in let pos = c .before .before .before .loop-test .taken in let eh = c .widen2 .ensures .0 in let back = reach-back (inv .here) pos eh in back .0
+sub-r c = let l = (c .before .before .before .before .loop) in let inv = l .inv in let pos = c .before .before .before .loop-test .taken in let eh = c .widen2 .ensures .0 in let back = reach-back (inv .here) pos eh in back .0
 
 sub-r-2 : tie.Need-sub-r-2 Inv-loop μ-loop
-sub-r-2 c = let a = (c .before .before .before .before .before .before .before .before .before .before .before .before .before .args) in let ok = c .before .before .before .before .before .before .before .before .before .before .before .before .before .pre .0 in let some = ok .pattern .some in let few = ok .pattern .few in let short = ok .short in let mk = c .before .before .before .before .before .before .before .before .before .before .before .before .before .pre .1 .0 in let g = c .before .before .before .before .before .before .before .before .before .before .before .before .before .pre .1 .1 in let l = (c .before .before .before .before .loop) in let inv = l .inv in let i = inv .here .inside in let pos = c .before .before .before .loop-test .taken in let eh = c .widen2 .ensures .0 in let back = reach-back (inv .here) pos eh in back .1
+sub-r-2 c = let l = (c .before .before .before .before .loop) in let inv = l .inv in let pos = c .before .before .before .loop-test .taken in let eh = c .widen2 .ensures .0 in let back = reach-back (inv .here) pos eh in back .1
 
 add-clip-3 : tie.Need-add-clip-3 Inv-loop μ-loop
 add-clip-3 c = let a = (c .before .before .before .before .before .before .before .before .before .before .before .before .before .args) in let ok = c .before .before .before .before .before .before .before .before .before .before .before .before .before .pre .0 in let some = ok .pattern .some in let few = ok .pattern .few in let short = ok .short in let mk = c .before .before .before .before .before .before .before .before .before .before .before .before .before .pre .1 .0 in let g = c .before .before .before .before .before .before .before .before .before .before .before .before .before .pre .1 .1 in let l = (c .before .before .before .before .loop) in let inv = l .inv in let i = inv .here .inside in let pos = c .before .before .before .loop-test .taken in let eh = c .widen2 .ensures .0 in let back = reach-back (inv .here) pos eh in omega (arith, reach-bound ok (l .j - 1) (omega arith))
@@ -73,13 +73,13 @@ clip-requires-2 : tie.Need-clip-requires-2 Inv-loop μ-loop
 clip-requires-2 c κs = search needs
 
 mul-reach-on : tie.Need-mul-reach-on Inv-loop μ-loop
-mul-reach-on c = let a = (c .before .before .before .before .before .before .before .before .before .before .before .before .before .before .args) in let ok = c .before .before .before .before .before .before .before .before .before .before .before .before .before .before .pre .0 in let some = ok .pattern .some in let few = ok .pattern .few in let short = ok .short in let mk = c .before .before .before .before .before .before .before .before .before .before .before .before .before .before .pre .1 .0 in let g = c .before .before .before .before .before .before .before .before .before .before .before .before .before .before .pre .1 .1 in let l = (c .before .before .before .before .before .loop) in let inv = l .inv in let i = inv .here .inside in let pos = c .before .before .before .before .loop-test .taken in omega arith
+mul-reach-on c = omega arith
 
 add-reach-on : tie.Need-add-reach-on Inv-loop μ-loop
-add-reach-on c = let a = (c .before .before .before .before .before .before .before .before .before .before .before .before .before .before .args) in let ok = c .before .before .before .before .before .before .before .before .before .before .before .before .before .before .pre .0 in let some = ok .pattern .some in let few = ok .pattern .few in let short = ok .short in let mk = c .before .before .before .before .before .before .before .before .before .before .before .before .before .before .pre .1 .0 in let g = c .before .before .before .before .before .before .before .before .before .before .before .before .before .before .pre .1 .1 in let l = (c .before .before .before .before .before .loop) in let inv = l .inv in let i = inv .here .inside in let pos = c .before .before .before .before .loop-test .taken in omega arith
+add-reach-on c = omega arith
 
 mul-reach-on-2 : tie.Need-mul-reach-on-2 Inv-loop μ-loop
-mul-reach-on-2 c = let a = (c .before .before .before .before .before .before .before .before .before .before .before .before .before .before .args) in let ok = c .before .before .before .before .before .before .before .before .before .before .before .before .before .before .pre .0 in let some = ok .pattern .some in let few = ok .pattern .few in let short = ok .short in let mk = c .before .before .before .before .before .before .before .before .before .before .before .before .before .before .pre .1 .0 in let g = c .before .before .before .before .before .before .before .before .before .before .before .before .before .before .pre .1 .1 in let l = (c .before .before .before .before .before .loop) in let inv = l .inv in let i = inv .here .inside in let pos = c .before .before .before .before .loop-test .taken in omega arith
+mul-reach-on-2 c = omega arith
 
 reach-on-requires : tie.Need-reach-on-requires Inv-loop μ-loop
 reach-on-requires c κs = let a = (c .before .before .before .before .before .before .before .before .before .before .before .before .before .before .before .args) in let ok = c .before .before .before .before .before .before .before .before .before .before .before .before .before .before .before .pre .0 in let some = ok .pattern .some in let few = ok .pattern .few in let short = ok .short in let mk = c .before .before .before .before .before .before .before .before .before .before .before .before .before .before .before .pre .1 .0 in let g = c .before .before .before .before .before .before .before .before .before .before .before .before .before .before .before .pre .1 .1 in let l = (c .before .before .before .before .before .before .loop) in let inv = l .inv in let i = inv .here .inside in let pos = c .before .before .before .before .before .loop-test .taken in let eh = c .before .before .widen2 .ensures .0 in let back = reach-back (inv .here) pos eh in let ea = c .before .clip2 .ensures in let less = size-less (inv .here) pos eh ea in let el = c .before .before .before .widen .ensures .0 in let gap = gaps ok (l .j) i in let long = c .before .before .before .before .before .before .before .before .before .reach-last .kept .1 .1 .1 .1 .1 .1 .0 in let sz = mk .size in let kept = inv .long in (omega arith, omega arith, omega arith, omega arith, omega arith, omega arith)

@@ -26,9 +26,7 @@ loop-holds c = (length-replicate {A = ℕ} 1000 0, length-replicate {A = ℕ} 10
 
 shared-slice-read-if1 : tie.Need-shared-slice-read-if1 Inv-loop μ-loop
 shared-slice-read-if1 c = let b = c .before .before .before .before .before .before in
-    let l = c .before .before .loop in
     let ok = b .pre .0 in
-    let g = b .pre .1 .1 in
     let n = c .before .loop-test .taken in
     omega (arith, n, ok .short, b .pre .1 .0 .size)
 
@@ -99,7 +97,6 @@ loop-again-2 : tie.Need-loop-again-2 Inv-loop μ-loop
 loop-again-2 c = let b = c .before .before .before .before .before .before .before in
     let l = c .before .before .before .loop in
     let ok = b .pre .0 in
-    let g = b .pre .1 .1 in
     let n = c .before .before .loop-test .taken in
     (l .inv .0, l .inv .1, omega (arith, n), skip-sum ok (l .i) (l .inv .3) (start-skip ok (b .pre .1 .0) (l .i) n (c .if1 .left)))
 

@@ -50,7 +50,7 @@ abbrev walk-μ-loop : walk-lts.MeasureT-loop
 walk-μ-loop low high next m first j x y row done list₀ rows₀ q₀ list rows q = y + 1 - q
 
 walk-entry-requires : (t : ℕ) → walk-lts.Need-entry-requires (calls t) (walk-at t) walk.Post walk-Inv-loop walk-μ-loop
-walk-entry-requires t c κs = let w = c .before .before .before .before .pre .1 in let slot = w .slot in let few = w .leads .few in (omega arith, omega (arith, w .start, w .leads .inside _ slot), w .leads .long)
+walk-entry-requires t c κs = let w = c .before .before .before .before .pre .1 in let slot = w .slot in (omega arith, omega (arith, w .start, w .leads .inside _ slot), w .leads .long)
 
 walk-loop-holds : (t : ℕ) → walk-lts.Need-loop-holds (calls t) (walk-at t) walk.Post walk-Inv-loop walk-μ-loop
 walk-loop-holds t c = (refl, λ w. going-begin w (c .entry .ensures .0))
@@ -65,73 +65,73 @@ walk-placed-requires : (t : ℕ) → walk-lts.Need-placed-requires (calls t) (wa
 walk-placed-requires t c κs = let w = c .before .before .before .before .before .before .before .pre .1 in let g = c .before .loop .inv .1 w in let y = c .loop-test .taken in let slot = w .slot in let few = w .leads .few in let small = going-small g y in (omega arith, omega arith)
 
 walk-add-if1 : (t : ℕ) → walk-lts.Need-add-if1 (calls t) (walk-at t) walk.Post walk-Inv-loop walk-μ-loop
-walk-add-if1 t c = let w = c .before .before .before .before .before .before .before .before .pre .1 in let g = c .before .before .loop .inv .1 w in let y = c .before .loop-test .taken in let slot = w .slot in let few = w .leads .few in omega arith
+walk-add-if1 t c = omega arith
 
 walk-put-at-requires : (t : ℕ) → walk-lts.Need-put-at-requires (calls t) (walk-at t) walk.Post walk-Inv-loop walk-μ-loop
-walk-put-at-requires t c κs = let w = c .before .before .before .before .before .before .before .before .before .before .pre .1 in let g = c .before .before .before .before .loop .inv .1 w in let y = c .before .before .before .loop-test .taken in let slot = w .slot in let few = w .leads .few in let room = going-room g y (c .before .if1 .taken) in (few, omega (arith, room .0, c .before .before .before .before .loop .inv .0))
+walk-put-at-requires t c κs = let w = c .before .before .before .before .before .before .before .before .before .before .pre .1 in let g = c .before .before .before .before .loop .inv .1 w in let y = c .before .before .before .loop-test .taken in let few = w .leads .few in let room = going-room g y (c .before .if1 .taken) in (few, omega (arith, room .0, c .before .before .before .before .loop .inv .0))
 
 walk-add-rows : (t : ℕ) → walk-lts.Need-add-rows (calls t) (walk-at t) walk.Post walk-Inv-loop walk-μ-loop
-walk-add-rows t c = let w = c .before .before .before .before .before .before .before .before .before .before .before .before .before .pre .1 in let g = c .before .before .before .before .before .before .before .loop .inv .1 w in let y = c .before .before .before .before .before .before .loop-test .taken in let slot = w .slot in let few = w .leads .few in let room = going-room g y (c .before .before .before .before .if1 .taken) in omega (arith, room .1)
+walk-add-rows t c = let w = c .before .before .before .before .before .before .before .before .before .before .before .before .before .pre .1 in let g = c .before .before .before .before .before .before .before .loop .inv .1 w in let y = c .before .before .before .before .before .before .loop-test .taken in let room = going-room g y (c .before .before .before .before .if1 .taken) in omega (arith, room .1)
 
 walk-add-entry : (t : ℕ) → walk-lts.Need-add-entry (calls t) (walk-at t) walk.Post walk-Inv-loop walk-μ-loop
-walk-add-entry t c = let w = c .before .before .before .before .before .before .before .before .before .before .before .before .before .pre .1 in let g = c .before .before .before .before .before .before .before .loop .inv .1 w in let y = c .before .before .before .before .before .before .loop-test .taken in let slot = w .slot in let few = w .leads .few in let small = going-small g y in omega arith
+walk-add-entry t c = omega arith
 
 walk-entry-requires-2 : (t : ℕ) → walk-lts.Need-entry-requires-2 (calls t) (walk-at t) walk.Post walk-Inv-loop walk-μ-loop
 walk-entry-requires-2 t c κs = let w = c .before .before .before .before .before .before .before .before .before .before .before .before .before .pre .1 in let g = c .before .before .before .before .before .before .before .loop .inv .1 w in let y = c .before .before .before .before .before .before .loop-test .taken in let slot = w .slot in let few = w .leads .few in let small = going-small g y in (omega arith, omega arith, w .leads .long)
 
 walk-loop-less : (t : ℕ) → walk-lts.Need-loop-less (calls t) (walk-at t) walk.Post walk-Inv-loop walk-μ-loop
-walk-loop-less t c = let w = c .before .before .before .before .before .before .before .before .before .before .before .before .before .before .pre .1 in let g = c .before .before .before .before .before .before .before .before .loop .inv .1 w in let y = c .before .before .before .before .before .before .before .loop-test .taken in let slot = w .slot in let few = w .leads .few in omega (arith, going-on g y (c .entry2 .ensures .0))
+walk-loop-less t c = let w = c .before .before .before .before .before .before .before .before .before .before .before .before .before .before .pre .1 in let g = c .before .before .before .before .before .before .before .before .loop .inv .1 w in let y = c .before .before .before .before .before .before .before .loop-test .taken in omega (arith, going-on g y (c .entry2 .ensures .0))
 
 walk-loop-again : (t : ℕ) → walk-lts.Need-loop-again (calls t) (walk-at t) walk.Post walk-Inv-loop walk-μ-loop
-walk-loop-again t c = let y = c .before .before .before .before .before .before .before .loop-test .taken in (c .before .before .before .put-at .kept .0 ∙ c .before .before .before .before .before .before .before .before .loop .inv .0, λ w. let few = w .leads .few in let slot = w .slot in let row : length (c .before .before .before .before .before .before .before .before .before .before .before .before .before .before .args .row) ≡ 16 = (c .before .before .before .before .before .before .before .before .before .before .before .before .before .before .good .1 .1 .1 .1 .1 .1 .1 .1 .0 .1 .0 .1) in let long : c .before .before .before .before .before .before .before .before .before .before .before .before .before .before .args .j < length (c .before .before .before .before .before .before .before .before .before .before .before .before .before .before .args .row) = omega arith in going-leaf (c .before .before .before .before .before .before .before .before .loop .inv .1 w) y (c .entry2 .ensures .0) long (c .before .before .before .before .before .before .placed .ensures) (c .before .before .before .before .before .if1 .taken) (c .before .before .before .put-at .ensures))
+walk-loop-again t c = let y = c .before .before .before .before .before .before .before .loop-test .taken in (c .before .before .before .put-at .kept .0 ∙ c .before .before .before .before .before .before .before .before .loop .inv .0, λ w. let row : length (c .before .before .before .before .before .before .before .before .before .before .before .before .before .before .args .row) ≡ 16 = (c .before .before .before .before .before .before .before .before .before .before .before .before .before .before .good .1 .1 .1 .1 .1 .1 .1 .1 .0 .1 .0 .1) in let long : c .before .before .before .before .before .before .before .before .before .before .before .before .before .before .args .j < length (c .before .before .before .before .before .before .before .before .before .before .before .before .before .before .args .row) = omega arith in going-leaf (c .before .before .before .before .before .before .before .before .loop .inv .1 w) y (c .entry2 .ensures .0) long (c .before .before .before .before .before .before .placed .ensures) (c .before .before .before .before .before .if1 .taken) (c .before .before .before .put-at .ensures))
 
 walk-add-k : (t : ℕ) → walk-lts.Need-add-k (calls t) (walk-at t) walk.Post walk-Inv-loop walk-μ-loop
-walk-add-k t c = let w = c .before .before .before .before .before .before .before .before .before .pre .1 in let g = c .before .before .before .loop .inv .1 w in let y = c .before .before .loop-test .taken in let slot = w .slot in let few = w .leads .few in omega arith
+walk-add-k t c = omega arith
 
 walk-mul-widen : (t : ℕ) → walk-lts.Need-mul-widen (calls t) (walk-at t) walk.Post walk-Inv-loop walk-μ-loop
-walk-mul-widen t c = let w = c .before .before .before .before .before .before .before .before .before .pre .1 in let g = c .before .before .before .loop .inv .1 w in let y = c .before .before .loop-test .taken in let slot = w .slot in let few = w .leads .few in let inner : c .before .before .before .before .before .before .before .before .before .args .j + 1 < c .before .before .before .before .before .before .before .before .before .args .m = omega (arith, c .if1 .left) in let lows = w .leads .lows in omega arith
+walk-mul-widen t c = let inner : c .before .before .before .before .before .before .before .before .before .args .j + 1 < c .before .before .before .before .before .before .before .before .before .args .m = omega (arith, c .if1 .left) in omega arith
 
 walk-shared-slice-read-widen : (t : ℕ) → walk-lts.Need-shared-slice-read-widen (calls t) (walk-at t) walk.Post walk-Inv-loop walk-μ-loop
-walk-shared-slice-read-widen t c = let w = c .before .before .before .before .before .before .before .before .before .before .pre .1 in let g = c .before .before .before .before .loop .inv .1 w in let y = c .before .before .before .loop-test .taken in let slot = w .slot in let few = w .leads .few in let inner : c .before .before .before .before .before .before .before .before .before .before .args .j + 1 < c .before .before .before .before .before .before .before .before .before .before .args .m = omega (arith, c .before .if1 .left) in let lows = w .leads .lows in omega arith
+walk-shared-slice-read-widen t c = let inner : c .before .before .before .before .before .before .before .before .before .before .args .j + 1 < c .before .before .before .before .before .before .before .before .before .before .args .m = omega (arith, c .before .if1 .left) in omega arith
 
 walk-widen-requires : (t : ℕ) → walk-lts.Need-widen-requires (calls t) (walk-at t) walk.Post walk-Inv-loop walk-μ-loop
 walk-widen-requires t c κs = search needs
 
 walk-add-a : (t : ℕ) → walk-lts.Need-add-a (calls t) (walk-at t) walk.Post walk-Inv-loop walk-μ-loop
-walk-add-a t c = let w = c .before .before .before .before .before .before .before .before .before .before .before .pre .1 in let g = c .before .before .before .before .before .loop .inv .1 w in let y = c .before .before .before .before .loop-test .taken in let slot = w .slot in let few = w .leads .few in let small = going-small g y in omega (arith, c .widen .ensures .1)
+walk-add-a t c = omega (arith, c .widen .ensures .1)
 
 walk-add-a-2 : (t : ℕ) → walk-lts.Need-add-a-2 (calls t) (walk-at t) walk.Post walk-Inv-loop walk-μ-loop
-walk-add-a-2 t c = let w = c .before .before .before .before .before .before .before .before .before .before .before .pre .1 in let g = c .before .before .before .before .before .loop .inv .1 w in let y = c .before .before .before .before .loop-test .taken in let slot = w .slot in let few = w .leads .few in let small = going-small g y in omega (arith, c .widen .ensures .1)
+walk-add-a-2 t c = omega (arith, c .widen .ensures .1)
 
 walk-mul-widen-2 : (t : ℕ) → walk-lts.Need-mul-widen-2 (calls t) (walk-at t) walk.Post walk-Inv-loop walk-μ-loop
-walk-mul-widen-2 t c = let w = c .before .before .before .before .before .before .before .before .before .before .before .pre .1 in let g = c .before .before .before .before .before .loop .inv .1 w in let y = c .before .before .before .before .loop-test .taken in let slot = w .slot in let few = w .leads .few in let inner : c .before .before .before .before .before .before .before .before .before .before .before .args .j + 1 < c .before .before .before .before .before .before .before .before .before .before .before .args .m = omega (arith, c .before .before .if1 .left) in let highs = w .leads .highs in omega arith
+walk-mul-widen-2 t c = let inner : c .before .before .before .before .before .before .before .before .before .before .before .args .j + 1 < c .before .before .before .before .before .before .before .before .before .before .before .args .m = omega (arith, c .before .before .if1 .left) in omega arith
 
 walk-shared-slice-read-widen-2 : (t : ℕ) → walk-lts.Need-shared-slice-read-widen-2 (calls t) (walk-at t) walk.Post walk-Inv-loop walk-μ-loop
-walk-shared-slice-read-widen-2 t c = let w = c .before .before .before .before .before .before .before .before .before .before .before .before .pre .1 in let g = c .before .before .before .before .before .before .loop .inv .1 w in let y = c .before .before .before .before .before .loop-test .taken in let slot = w .slot in let few = w .leads .few in let inner : c .before .before .before .before .before .before .before .before .before .before .before .before .args .j + 1 < c .before .before .before .before .before .before .before .before .before .before .before .before .args .m = omega (arith, c .before .before .before .if1 .left) in let highs = w .leads .highs in omega arith
+walk-shared-slice-read-widen-2 t c = let inner : c .before .before .before .before .before .before .before .before .before .before .before .before .args .j + 1 < c .before .before .before .before .before .before .before .before .before .before .before .before .args .m = omega (arith, c .before .before .before .if1 .left) in omega arith
 
 walk-widen-requires-2 : (t : ℕ) → walk-lts.Need-widen-requires-2 (calls t) (walk-at t) walk.Post walk-Inv-loop walk-μ-loop
 walk-widen-requires-2 t c κs = search needs
 
 walk-add-b : (t : ℕ) → walk-lts.Need-add-b (calls t) (walk-at t) walk.Post walk-Inv-loop walk-μ-loop
-walk-add-b t c = let w = c .before .before .before .before .before .before .before .before .before .before .before .before .before .pre .1 in let g = c .before .before .before .before .before .before .before .loop .inv .1 w in let y = c .before .before .before .before .before .before .loop-test .taken in let slot = w .slot in let few = w .leads .few in let small = going-small g y in omega (arith, c .widen2 .ensures .1)
+walk-add-b t c = omega (arith, c .widen2 .ensures .1)
 
 walk-add-b-2 : (t : ℕ) → walk-lts.Need-add-b-2 (calls t) (walk-at t) walk.Post walk-Inv-loop walk-μ-loop
-walk-add-b-2 t c = let w = c .before .before .before .before .before .before .before .before .before .before .before .before .before .pre .1 in let g = c .before .before .before .before .before .before .before .loop .inv .1 w in let y = c .before .before .before .before .before .before .loop-test .taken in let slot = w .slot in let few = w .leads .few in let small = going-small g y in omega (arith, c .widen2 .ensures .1)
+walk-add-b-2 t c = omega (arith, c .widen2 .ensures .1)
 
 walk-walk-requires : (t : ℕ) → walk-lts.Need-walk-requires (calls t) (walk-at t) walk.Post walk-Inv-loop walk-μ-loop
-walk-walk-requires t c κs = let w = c .before .before .before .before .before .before .before .before .before .before .before .before .before .before .pre .1 in let g = c .before .before .before .before .before .before .before .before .loop .inv .1 w in let y = c .before .before .before .before .before .before .before .loop-test .taken in let slot = w .slot in let few = w .leads .few in let inner : c .before .before .before .before .before .before .before .before .before .before .before .before .before .before .args .j + 1 < c .before .before .before .before .before .before .before .before .before .before .before .before .before .before .args .m = omega (arith, c .before .before .before .before .before .if1 .left) in let ea : c .before .before .before .before .before .before .before .before .loop .q + c .before .before .before .widen .result + 1 ≡ c .before .before .before .before .before .before .before .before .loop .q + getD (c .before .before .before .before .before .before .before .before .before .before .before .before .before .before .args .low .now) (c .before .before .before .before .before .before .before .before .before .before .before .before .before .before .args .j + 1) 0 + 1 = omega (arith, c .before .before .before .widen .ensures .0) in let eb : c .before .before .before .before .before .before .before .before .loop .q + c .before .widen2 .result + 1 ≡ c .before .before .before .before .before .before .before .before .loop .q + getD (c .before .before .before .before .before .before .before .before .before .before .before .before .before .before .args .high .now) (c .before .before .before .before .before .before .before .before .before .before .before .before .before .before .args .j + 1) 0 + 1 = omega (arith, c .before .widen2 .ensures .0) in (omega (arith, c .before .before .before .before .before .before .before .before .before .before .before .before .before .before .pre .0), child g y inner ea eb (c .before .before .before .before .before .before .before .before .loop .inv .0))
+walk-walk-requires t c κs = let w = c .before .before .before .before .before .before .before .before .before .before .before .before .before .before .pre .1 in let g = c .before .before .before .before .before .before .before .before .loop .inv .1 w in let y = c .before .before .before .before .before .before .before .loop-test .taken in let inner : c .before .before .before .before .before .before .before .before .before .before .before .before .before .before .args .j + 1 < c .before .before .before .before .before .before .before .before .before .before .before .before .before .before .args .m = omega (arith, c .before .before .before .before .before .if1 .left) in let ea : c .before .before .before .before .before .before .before .before .loop .q + c .before .before .before .widen .result + 1 ≡ c .before .before .before .before .before .before .before .before .loop .q + getD (c .before .before .before .before .before .before .before .before .before .before .before .before .before .before .args .low .now) (c .before .before .before .before .before .before .before .before .before .before .before .before .before .before .args .j + 1) 0 + 1 = omega (arith, c .before .before .before .widen .ensures .0) in let eb : c .before .before .before .before .before .before .before .before .loop .q + c .before .widen2 .result + 1 ≡ c .before .before .before .before .before .before .before .before .loop .q + getD (c .before .before .before .before .before .before .before .before .before .before .before .before .before .before .args .high .now) (c .before .before .before .before .before .before .before .before .before .before .before .before .before .before .args .j + 1) 0 + 1 = omega (arith, c .before .widen2 .ensures .0) in (omega (arith, c .before .before .before .before .before .before .before .before .before .before .before .before .before .before .pre .0), child g y inner ea eb (c .before .before .before .before .before .before .before .before .loop .inv .0))
 
 walk-add-entry-2 : (t : ℕ) → walk-lts.Need-add-entry-2 (calls t) (walk-at t) walk.Post walk-Inv-loop walk-μ-loop
-walk-add-entry-2 t c = let w = c .before .before .before .before .before .before .before .before .before .before .before .before .before .before .before .before .before .pre .1 in let g = c .before .before .before .before .before .before .before .before .before .before .before .loop .inv .1 w in let y = c .before .before .before .before .before .before .before .before .before .before .loop-test .taken in let slot = w .slot in let few = w .leads .few in let small = going-small g y in omega arith
+walk-add-entry-2 t c = omega arith
 
 walk-entry-requires-3 : (t : ℕ) → walk-lts.Need-entry-requires-3 (calls t) (walk-at t) walk.Post walk-Inv-loop walk-μ-loop
 walk-entry-requires-3 t c κs = let w = c .before .before .before .before .before .before .before .before .before .before .before .before .before .before .before .before .before .pre .1 in let g = c .before .before .before .before .before .before .before .before .before .before .before .loop .inv .1 w in let y = c .before .before .before .before .before .before .before .before .before .before .loop-test .taken in let slot = w .slot in let few = w .leads .few in let small = going-small g y in (omega arith, omega arith, w .leads .long)
 
 walk-loop-less-2 : (t : ℕ) → walk-lts.Need-loop-less-2 (calls t) (walk-at t) walk.Post walk-Inv-loop walk-μ-loop
-walk-loop-less-2 t c = let w = c .before .before .before .before .before .before .before .before .before .before .before .before .before .before .before .before .before .before .pre .1 in let g = c .before .before .before .before .before .before .before .before .before .before .before .before .loop .inv .1 w in let y = c .before .before .before .before .before .before .before .before .before .before .before .loop-test .taken in let slot = w .slot in let few = w .leads .few in omega (arith, going-on g y (c .entry3 .ensures .0))
+walk-loop-less-2 t c = let w = c .before .before .before .before .before .before .before .before .before .before .before .before .before .before .before .before .before .before .pre .1 in let g = c .before .before .before .before .before .before .before .before .before .before .before .before .loop .inv .1 w in let y = c .before .before .before .before .before .before .before .before .before .before .before .loop-test .taken in omega (arith, going-on g y (c .entry3 .ensures .0))
 
 walk-loop-again-2 : (t : ℕ) → walk-lts.Need-loop-again-2 (calls t) (walk-at t) walk.Post walk-Inv-loop walk-μ-loop
-walk-loop-again-2 t c = (c .before .before .before .walk .kept .1 .1 .1 .1 .1 .1 .1 .1 .1 .1 .0 ∙ c .before .before .before .before .before .before .before .before .before .before .before .before .loop .inv .0, λ w. let y = c .before .before .before .before .before .before .before .before .before .before .before .loop-test .taken in let few = w .leads .few in let slot = w .slot in let row : length (c .before .before .before .before .before .before .before .before .before .before .before .before .before .before .before .before .before .before .args .row) ≡ 16 = (c .before .before .before .before .before .before .before .before .before .before .before .before .before .before .before .before .before .before .good .1 .1 .1 .1 .1 .1 .1 .1 .0 .1 .0 .1) in let long : c .before .before .before .before .before .before .before .before .before .before .before .before .before .before .before .before .before .before .args .j < length (c .before .before .before .before .before .before .before .before .before .before .before .before .before .before .before .before .before .before .args .row) = omega arith in let inner : c .before .before .before .before .before .before .before .before .before .before .before .before .before .before .before .before .before .before .args .j + 1 < c .before .before .before .before .before .before .before .before .before .before .before .before .before .before .before .before .before .before .args .m = omega (arith, c .before .before .before .before .before .before .before .before .before .if1 .left) in let ea : c .before .before .before .before .before .before .before .before .before .before .before .before .loop .q + c .before .before .before .before .before .before .before .widen .result + 1 ≡ c .before .before .before .before .before .before .before .before .before .before .before .before .loop .q + getD (c .before .before .before .before .before .before .before .before .before .before .before .before .before .before .before .before .before .before .args .low .now) (c .before .before .before .before .before .before .before .before .before .before .before .before .before .before .before .before .before .before .args .j + 1) 0 + 1 = omega (arith, c .before .before .before .before .before .before .before .widen .ensures .0) in let eb : c .before .before .before .before .before .before .before .before .before .before .before .before .loop .q + c .before .before .before .before .before .widen2 .result + 1 ≡ c .before .before .before .before .before .before .before .before .before .before .before .before .loop .q + getD (c .before .before .before .before .before .before .before .before .before .before .before .before .before .before .before .before .before .before .args .high .now) (c .before .before .before .before .before .before .before .before .before .before .before .before .before .before .before .before .before .before .args .j + 1) 0 + 1 = omega (arith, c .before .before .before .before .before .widen2 .ensures .0) in let g = c .before .before .before .before .before .before .before .before .before .before .before .before .loop .inv .1 w in going-more g y (c .entry3 .ensures .0) long (c .before .before .before .before .before .before .before .before .before .before .placed .ensures) inner ea eb (c .before .before .before .before .before .before .before .before .before .before .before .before .loop .inv .0) (c .before .before .before .walk .ensures (child g y inner ea eb (c .before .before .before .before .before .before .before .before .before .before .before .before .loop .inv .0))))
+walk-loop-again-2 t c = (c .before .before .before .walk .kept .1 .1 .1 .1 .1 .1 .1 .1 .1 .1 .0 ∙ c .before .before .before .before .before .before .before .before .before .before .before .before .loop .inv .0, λ w. let y = c .before .before .before .before .before .before .before .before .before .before .before .loop-test .taken in let row : length (c .before .before .before .before .before .before .before .before .before .before .before .before .before .before .before .before .before .before .args .row) ≡ 16 = (c .before .before .before .before .before .before .before .before .before .before .before .before .before .before .before .before .before .before .good .1 .1 .1 .1 .1 .1 .1 .1 .0 .1 .0 .1) in let long : c .before .before .before .before .before .before .before .before .before .before .before .before .before .before .before .before .before .before .args .j < length (c .before .before .before .before .before .before .before .before .before .before .before .before .before .before .before .before .before .before .args .row) = omega arith in let inner : c .before .before .before .before .before .before .before .before .before .before .before .before .before .before .before .before .before .before .args .j + 1 < c .before .before .before .before .before .before .before .before .before .before .before .before .before .before .before .before .before .before .args .m = omega (arith, c .before .before .before .before .before .before .before .before .before .if1 .left) in let ea : c .before .before .before .before .before .before .before .before .before .before .before .before .loop .q + c .before .before .before .before .before .before .before .widen .result + 1 ≡ c .before .before .before .before .before .before .before .before .before .before .before .before .loop .q + getD (c .before .before .before .before .before .before .before .before .before .before .before .before .before .before .before .before .before .before .args .low .now) (c .before .before .before .before .before .before .before .before .before .before .before .before .before .before .before .before .before .before .args .j + 1) 0 + 1 = omega (arith, c .before .before .before .before .before .before .before .widen .ensures .0) in let eb : c .before .before .before .before .before .before .before .before .before .before .before .before .loop .q + c .before .before .before .before .before .widen2 .result + 1 ≡ c .before .before .before .before .before .before .before .before .before .before .before .before .loop .q + getD (c .before .before .before .before .before .before .before .before .before .before .before .before .before .before .before .before .before .before .args .high .now) (c .before .before .before .before .before .before .before .before .before .before .before .before .before .before .before .before .before .before .args .j + 1) 0 + 1 = omega (arith, c .before .before .before .before .before .widen2 .ensures .0) in let g = c .before .before .before .before .before .before .before .before .before .before .before .before .loop .inv .1 w in going-more g y (c .entry3 .ensures .0) long (c .before .before .before .before .before .before .before .before .before .before .placed .ensures) inner ea eb (c .before .before .before .before .before .before .before .before .before .before .before .before .loop .inv .0) (c .before .before .before .walk .ensures (child g y inner ea eb (c .before .before .before .before .before .before .before .before .before .before .before .before .loop .inv .0))))
 
 walk-same-length : (t : ℕ) → walk-lts.Need-same-length (calls t) (walk-at t) walk.Post walk-Inv-loop walk-μ-loop
 walk-same-length t c = c .before .loop .inv .0

@@ -38,17 +38,12 @@ clip-requires c κs = search needs
 
 mul-ends : tie.Need-mul-ends Inv-loop μ-loop
 mul-ends c = let b = c .before .before .before .before .before in
-    let a = b .args in
     let ok = b .pre .0 in
-    let some = ok .pattern .some in
-    let g = b .pre .1 .1 .1 in
     omega (arith, ok .pattern .few)
 
 add-ends : tie.Need-add-ends Inv-loop μ-loop
 add-ends c = let b = c .before .before .before .before .before in
-    let a = b .args in
     let ok = b .pre .0 in
-    let some = ok .pattern .some in
     let g = b .pre .1 .1 .1 in
     omega (arith, ok .pattern .few, g .0, ok .short)
 
@@ -86,26 +81,18 @@ loop-holds c = let b = c .before .before .before .before .before .before .before
 
 mul-s : tie.Need-mul-s Inv-loop μ-loop
 mul-s c = let b = c .before .before .before .before .before .before .before .before .before .before .before .before .before .before .before .before .before .before .before .before .before in
-    let a = b .args in
     let ok = b .pre .0 in
-    let some = ok .pattern .some in
-    let g = b .pre .1 .1 .1 in
     let l = c .before .loop in
     let inv = l .inv in
     let i = inv .here .inside in
-    let pos = c .loop-test .taken in
     omega (arith, i, ok .pattern .few)
 
 element-copy-out-s : tie.Need-element-copy-out-s Inv-loop μ-loop
 element-copy-out-s c = let b = c .before .before .before .before .before .before .before .before .before .before .before .before .before .before .before .before .before .before .before .before .before in
-    let a = b .args in
     let ok = b .pre .0 in
-    let some = ok .pattern .some in
-    let g = b .pre .1 .1 .1 in
     let l = c .before .loop in
     let inv = l .inv in
     let i = inv .here .inside in
-    let pos = c .loop-test .taken in
     omega (arith, i, ok .pattern .few)
 
 widen-requires : tie.Need-widen-requires Inv-loop μ-loop
@@ -118,28 +105,16 @@ sub-j-2 : tie.Need-sub-j-2 Inv-loop μ-loop
 sub-j-2 c = search needs
 
 sub-r : tie.Need-sub-r Inv-loop μ-loop
-sub-r c = let b = c .before .before .before .before .before .before .before .before .before .before .before .before .before .before .before .before .before .before .before .before .before .before .before .before in
-    let a = b .args in
-    let ok = b .pre .0 in
-    let some = ok .pattern .some in
-    let g = b .pre .1 .1 .1 in
-    let l = c .before .before .before .before .loop in
+sub-r c = let l = c .before .before .before .before .loop in
     let inv = l .inv in
-    let i = inv .here .inside in
     let pos = c .before .before .before .loop-test .taken in
     let eh = c .widen2 .ensures .0 in
     let back = reach-back (inv .here) pos eh in
     back .0
 
 sub-r-2 : tie.Need-sub-r-2 Inv-loop μ-loop
-sub-r-2 c = let b = c .before .before .before .before .before .before .before .before .before .before .before .before .before .before .before .before .before .before .before .before .before .before .before .before in
-    let a = b .args in
-    let ok = b .pre .0 in
-    let some = ok .pattern .some in
-    let g = b .pre .1 .1 .1 in
-    let l = c .before .before .before .before .loop in
+sub-r-2 c = let l = c .before .before .before .before .loop in
     let inv = l .inv in
-    let i = inv .here .inside in
     let pos = c .before .before .before .loop-test .taken in
     let eh = c .widen2 .ensures .0 in
     let back = reach-back (inv .here) pos eh in
@@ -147,9 +122,7 @@ sub-r-2 c = let b = c .before .before .before .before .before .before .before .b
 
 add-clip-3 : tie.Need-add-clip-3 Inv-loop μ-loop
 add-clip-3 c = let b = c .before .before .before .before .before .before .before .before .before .before .before .before .before .before .before .before .before .before .before .before .before .before .before .before in
-    let a = b .args in
     let ok = b .pre .0 in
-    let some = ok .pattern .some in
     let g = b .pre .1 .1 .1 in
     let l = c .before .before .before .before .loop in
     let inv = l .inv in
@@ -161,9 +134,7 @@ add-clip-3 c = let b = c .before .before .before .before .before .before .before
 
 add-clip-4 : tie.Need-add-clip-4 Inv-loop μ-loop
 add-clip-4 c = let b = c .before .before .before .before .before .before .before .before .before .before .before .before .before .before .before .before .before .before .before .before .before .before .before .before in
-    let a = b .args in
     let ok = b .pre .0 in
-    let some = ok .pattern .some in
     let g = b .pre .1 .1 .1 in
     let l = c .before .before .before .before .loop in
     let inv = l .inv in
@@ -178,40 +149,31 @@ clip-requires-2 c κs = search needs
 
 mul-spread : tie.Need-mul-spread Inv-loop μ-loop
 mul-spread c = let b = c .before .before .before .before .before .before .before .before .before .before .before .before .before .before .before .before .before .before .before .before .before .before .before .before .before in
-    let a = b .args in
     let ok = b .pre .0 in
-    let some = ok .pattern .some in
-    let g = b .pre .1 .1 .1 in
     let l = c .before .before .before .before .before .loop in
     let inv = l .inv in
     let i = inv .here .inside in
-    let pos = c .before .before .before .before .loop-test .taken in
     omega (arith, i, ok .pattern .few)
 
 add-spread : tie.Need-add-spread Inv-loop μ-loop
 add-spread c = let b = c .before .before .before .before .before .before .before .before .before .before .before .before .before .before .before .before .before .before .before .before .before .before .before .before .before in
-    let a = b .args in
     let ok = b .pre .0 in
-    let some = ok .pattern .some in
     let g = b .pre .1 .1 .1 in
     let l = c .before .before .before .before .before .loop in
     let inv = l .inv in
     let i = inv .here .inside in
-    let pos = c .before .before .before .before .loop-test .taken in
     omega (arith, i, ok .pattern .few, g .0, ok .short)
 
 spread-requires : tie.Need-spread-requires Inv-loop μ-loop
 spread-requires c κs = let b = c .before .before .before .before .before .before .before .before .before .before .before .before .before .before .before .before .before .before .before .before .before .before .before .before .before .before .before in
     let a = b .args in
     let ok = b .pre .0 in
-    let some = ok .pattern .some in
     let g = b .pre .1 .1 .1 in
     let l = c .before .before .before .before .before .before .before .loop in
     let inv = l .inv in
     let i = inv .here .inside in
     let pos = c .before .before .before .before .before .before .loop-test .taken in
     let eh = c .before .before .before .widen2 .ensures .0 in
-    let back = reach-back (inv .here) pos eh in
     let ea = c .before .before .clip2 .ensures in
     let less = size-less (inv .here) pos eh ea in
     let el = c .before .before .before .before .widen .ensures .0 in (
@@ -226,14 +188,12 @@ sums-requires-2 : tie.Need-sums-requires-2 Inv-loop μ-loop
 sums-requires-2 c κs = let b = c .before .before .before .before .before .before .before .before .before .before .before .before .before .before .before .before .before .before .before .before .before .before .before .before .before .before .before .before .before .before .before .before .before .before in
     let a = b .args in
     let ok = b .pre .0 in
-    let some = ok .pattern .some in
     let g = b .pre .1 .1 .1 in
     let l = c .before .before .before .before .before .before .before .before .before .before .before .before .before .before .loop in
     let inv = l .inv in
     let i = inv .here .inside in
     let pos = c .before .before .before .before .before .before .before .before .before .before .before .before .before .loop-test .taken in
     let eh = c .before .before .before .before .before .before .before .before .before .before .widen2 .ensures .0 in
-    let back = reach-back (inv .here) pos eh in
     let ea = c .before .before .before .before .before .before .before .before .before .clip2 .ensures in
     let less = size-less (inv .here) pos eh ea in
     let z = size-back (inv .here) pos eh ea in
@@ -248,14 +208,12 @@ loop-again : tie.Need-loop-again Inv-loop μ-loop
 loop-again c = let b = c .before .before .before .before .before .before .before .before .before .before .before .before .before .before .before .before .before .before .before .before .before .before .before .before .before .before .before .before .before .before .before .before .before .before .before .before .before .before .before in
     let a = b .args in
     let ok = b .pre .0 in
-    let some = ok .pattern .some in
     let g = b .pre .1 .1 .1 in
     let l = c .before .before .before .before .before .before .before .before .before .before .before .before .before .before .before .before .before .before .before .loop in
     let inv = l .inv in
     let i = inv .here .inside in
     let pos = c .before .before .before .before .before .before .before .before .before .before .before .before .before .before .before .before .before .before .loop-test .taken in
     let eh = c .before .before .before .before .before .before .before .before .before .before .before .before .before .before .before .widen2 .ensures .0 in
-    let back = reach-back (inv .here) pos eh in
     let ea = c .before .before .before .before .before .before .before .before .before .before .before .before .before .before .clip2 .ensures in
     let less = size-less (inv .here) pos eh ea in
     let z = size-back (inv .here) pos eh ea in

@@ -1,0 +1,122 @@
+/*
+ * Bedbloomer for C, and for Rust by the same declarations: link libbindings.a (rt staticlib bindings).
+ *
+ * A slice is a pointer and how many entries it has; with 0 entries the pointer is not read, but it must not be null.
+ * Every call answers for any values; `number` is the refusal's number (README.md, "Refusals"), 0 where nothing is refused.
+ */
+#ifndef BEDBLOOMER_H
+#define BEDBLOOMER_H
+
+#include <stddef.h>
+#include <stdint.h>
+
+/* A slot: the first `count` of its words, and the gap before it. */
+typedef struct {
+    uint16_t words[8];
+    size_t count;
+    uint16_t low;
+    uint16_t high;
+} bedbloomer_slot;
+
+/* A pattern: the first `count` of its slots, and its span limits. */
+typedef struct {
+    bedbloomer_slot slots[16];
+    size_t count;
+    uint16_t least;
+    uint16_t most;
+} bedbloomer_pattern;
+
+/* An answer, or a refusal with its place; then the value is 0. */
+typedef struct {
+    uint32_t number;
+    size_t place;
+    uint64_t value;
+} bedbloomer_answer;
+
+/* A pattern, beside a refusal with its place or 0 0. */
+typedef struct {
+    uint32_t number;
+    size_t place;
+    bedbloomer_pattern pattern;
+} bedbloomer_made;
+
+/* What a search found: 1 and its places, those past the slots 0; where there is none or it is refused, 0 and all places 0. */
+typedef struct {
+    uint32_t number;
+    size_t place;
+    uint64_t found;
+    uint16_t places[16];
+} bedbloomer_found;
+
+/* How long an excerpt is, and one of its words (0 past its end). */
+typedef struct {
+    size_t length;
+    uint16_t word;
+} bedbloomer_excerpted;
+
+/* The marks of one client. */
+typedef struct {
+    uint16_t places[16];
+} bedbloomer_marks;
+
+/* The marks of clients 1 to 4, and the number served; fresh: all 0. */
+typedef struct {
+    bedbloomer_marks marks[4];
+    size_t served;
+} bedbloomer_cursors;
+
+/* The state that a call of `next` or `rewind` leaves, beside what it answers; `rewind` finds nothing. */
+typedef struct {
+    bedbloomer_cursors cursors;
+    uint32_t number;
+    size_t place;
+    uint64_t found;
+    uint16_t places[16];
+} bedbloomer_served;
+
+/* The count for a pattern file and a text file, or 100,000 plus the refusal's number. */
+uint32_t bedbloomer_count(const uint8_t *pattern, size_t pattern_bytes, const uint8_t *text, size_t text_bytes);
+
+/* The bytes that the program prints for this input, as many as `out` holds: how many were written. */
+size_t bedbloomer_report(const uint8_t *input, size_t input_bytes, uint8_t *out, size_t out_bytes);
+
+/* The files one by one; a text's words go to the start of `words`, and the answer is how many. */
+bedbloomer_made bedbloomer_read_pattern(const uint8_t *bytes, size_t byte_count);
+bedbloomer_answer bedbloomer_read_text(const uint8_t *bytes, size_t byte_count, uint16_t *words, size_t word_count);
+
+/* A pattern without slots, with these span limits; the pattern with one slot more; its tests 1 to 5, and 6 for a text of `words`. */
+bedbloomer_pattern bedbloomer_pattern_of(uint16_t least, uint16_t most);
+bedbloomer_made bedbloomer_with_slot(bedbloomer_pattern pattern, uint16_t low, uint16_t high, const uint16_t *words,
+                                     size_t word_count);
+bedbloomer_answer bedbloomer_check(bedbloomer_pattern pattern, size_t words);
+
+/* Whether a row is an occurrence (1 or 0); the word at an index from 0 of its excerpt. */
+bedbloomer_answer bedbloomer_is_occurrence(bedbloomer_pattern pattern, const uint16_t *text, size_t text_words,
+                                           const uint16_t *row, size_t row_places);
+bedbloomer_excerpted bedbloomer_excerpt(bedbloomer_pattern pattern, const uint16_t *text, size_t text_words,
+                                        const uint16_t *row, size_t row_places, size_t index);
+
+/* The earliest occurrence past the marks; the latest before them. */
+bedbloomer_found bedbloomer_first_after(bedbloomer_pattern pattern, const uint16_t *text, size_t text_words,
+                                        const uint16_t *marks, size_t mark_count);
+bedbloomer_found bedbloomer_last_before(bedbloomer_pattern pattern, const uint16_t *text, size_t text_words,
+                                        const uint16_t *marks, size_t mark_count);
+
+/* The front list, the back list and all occurrences, written row after row: how many rows. */
+bedbloomer_answer bedbloomer_leftmost(bedbloomer_pattern pattern, const uint16_t *text, size_t text_words, uint16_t *list,
+                                      size_t list_entries);
+bedbloomer_answer bedbloomer_rightmost(bedbloomer_pattern pattern, const uint16_t *text, size_t text_words, uint16_t *list,
+                                       size_t list_entries);
+bedbloomer_answer bedbloomer_all(bedbloomer_pattern pattern, const uint16_t *text, size_t text_words, uint16_t *list,
+                                 size_t list_entries);
+
+/* The count and the tally. */
+bedbloomer_answer bedbloomer_support(bedbloomer_pattern pattern, const uint16_t *text, size_t text_words);
+bedbloomer_answer bedbloomer_tally(bedbloomer_pattern pattern, const uint16_t *text, size_t text_words);
+
+/* The next occurrence for a client; its marks set to 0. */
+bedbloomer_served bedbloomer_next(bedbloomer_cursors cursors, size_t client, bedbloomer_pattern pattern,
+                                  const uint16_t *text, size_t text_words);
+bedbloomer_served bedbloomer_rewind(bedbloomer_cursors cursors, size_t client);
+
+#endif
