@@ -1,0 +1,28 @@
+-- The digits of a number, the last one apart. Assumes nothing.
+use Prim.Native.Nat.{ℕ, zero, suc, _+_, _*_, _/_, _%_, _≤_, _<_}
+use native.Mathlib.Omega.{arith}
+use mathlib.Core.Path.{_≡_, ap}
+use mathlib.Core.List.{List, [], _∷_, _++_}
+use lib.Dec.{ltb}
+use borrow.Author.Tests.{le-ltb, lt-ltb}
+use Rattle.pattern.specs.Tests.{pick}
+use Rattle.format.specs.Shown.{digitsIn}
+
+-- a bound on a number of f + 1 digits
+abbrev ten : ℕ → ℕ
+ten zero = 10
+ten (suc f) = 10 * ten f
+
+-- more room changes no digit
+digits-room : (f n : ℕ) → n < ten f → digitsIn f n ≡ digitsIn (suc f) n
+unfolding digitsIn
+digits-room zero n h = rw (lt-ltb n 10 h)
+digits-room (suc f) n h = ap (λ (l : List ℕ). pick (ltb n 10) ((48 + n) ∷ []) (l ++ ((48 + n % 10) ∷ []))) (digits-room f (n / 10) (omega arith))
+
+pub one-digit : (n : ℕ) → n < 10 → digitsIn 19 n ≡ (48 + n) ∷ []
+unfolding digitsIn
+one-digit n h = rw (lt-ltb n 10 h)
+
+pub last-digit : (n : ℕ) → 10 ≤ n → n < 18446744073709551616 → digitsIn 19 n ≡ digitsIn 19 (n / 10) ++ ((48 + n % 10) ∷ [])
+unfolding digitsIn
+last-digit n h s = rw (le-ltb n 10 h) (ap (λ (l : List ℕ). l ++ ((48 + n % 10) ∷ [])) (digits-room 18 (n / 10) (omega arith)))

@@ -1,0 +1,44 @@
+-- `report::lines::put_refusal` meets its contract: the line of values is written after the names.
+use mathlib.Core.List.{[], _∷_}
+use Rattle.report.specs.Lines.{values, refusalNames}
+use Rattle.report.proofs.Writers.{writes-line}
+use borrow.Author.Needs.{needs}
+use Rattle.report.proofs.lines.put_refusal.Statement.{statement}
+use Rattle.report.proofs.lines.put_refusal.Tie as tie
+
+slice-aggregate-put-all : tie.Need-slice-aggregate-put-all
+slice-aggregate-put-all c = search needs
+
+put-all-requires : tie.Need-put-all-requires
+put-all-requires c κs = search needs
+
+number-requires : tie.Need-number-requires
+number-requires c κs = search needs
+
+cast-put-pair : tie.Need-cast-put-pair
+cast-put-pair c = search needs
+
+place-requires : tie.Need-place-requires
+place-requires c κs = search needs
+
+put-pair-requires : tie.Need-put-pair-requires
+put-pair-requires c κs = search needs
+
+same-length : tie.Need-same-length
+same-length c = search needs
+
+returns : tie.Need-returns
+returns c = rw (← c .before .before .before .before .number .ensures, ← c .before .before .before .place .ensures) (writes-line refusalNames (values (c .before .before .before .before .number .result ∷ c .before .before .before .place .result ∷ []) ∷ []) (c .before .before .before .before .before .before .before .before .put-all .ensures) (c .before .before .put-pair .ensures))
+
+pub put-refusal-spec : {M : Type 1} → statement M
+put-refusal-spec =
+    tie.close
+    (tie.spec
+    slice-aggregate-put-all
+    put-all-requires
+    number-requires
+    cast-put-pair
+    place-requires
+    put-pair-requires
+    same-length
+    returns)

@@ -1,0 +1,6 @@
+-- What the program prints for its input. `Laws` has what follows.
+pub mod Files
+pub mod Lines
+pub mod Report
+pub mod Writing
+pub mod Laws

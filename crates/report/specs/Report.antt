@@ -1,0 +1,65 @@
+-- What is printed for an input, by the tests in document 01's order: 12, those of the two files, 8, 9.
+use Prim.Native.Nat.{ℕ}
+use mathlib.Core.List.{List, [], _++_}
+use lib.ListN.{length, take, drop}
+use lib.Dec.{ltb}
+use Rattle.pattern.specs.Tests.{pick, inputVerdict}
+use Rattle.pattern.specs.declared.Pattern.{Pattern}
+use Rattle.pattern.specs.declared.refusal.Refusal.the-variants.{FileLength}
+use Rattle.matching.specs.Answers.{listed}
+use Rattle.matching.specs.Lists.{leftmost, rightmost}
+use Rattle.matching.specs.declared.rows.Listed.{Listed}
+use Rattle.matching.specs.declared.rows.Listed.the-variants.{Rows}
+use Rattle.matching.specs.declared.rows.Listed.the-variants.{Refused as NotListed}
+use Rattle.counting.specs.Answers.{tallied}
+use Rattle.counting.specs.declared.total.Tallied.{Tallied}
+use Rattle.counting.specs.declared.total.Tallied.the-variants.{Total}
+use Rattle.counting.specs.declared.total.Tallied.the-variants.{Refused as NotTallied}
+use Rattle.format.specs.Input.{inputRead}
+use Rattle.format.specs.Texts.{TextContents, textContents, words, refused}
+use Rattle.format.specs.declared.texts.TextRead.{TextRead}
+use Rattle.format.specs.declared.texts.TextRead.the-variants.{Words}
+use Rattle.format.specs.declared.texts.TextRead.the-variants.{Refused as NotRead}
+use Rattle.report.specs.Files.{patternFile, textFile}
+use Rattle.report.specs.Lines.{refusalReport, listsReport}
+
+-- ---- a pattern and a text
+
+-- where the tally is so
+abbrev pub afterTally : Tallied → Pattern → List ℕ → List ℕ
+afterTally (Total n) f t = listsReport (f .count) (leftmost f t) (rightmost f t) n
+afterTally (NotTallied why) f t = refusalReport why
+
+-- where the front list answers so
+abbrev pub afterLists : Listed → Pattern → List ℕ → List ℕ
+afterLists (Rows n) f t = afterTally (tallied f t) f t
+afterLists (NotListed why) f t = refusalReport why
+
+-- each list holds 16,000 places
+unfoldable pub searchReport : Pattern → List ℕ → List ℕ
+searchReport f t = afterLists (listed (inputVerdict f (length t)) (f .count) (leftmost f t) 16000) f t
+
+-- ---- an input
+
+-- the words that a text file shows
+abbrev pub shownWords : TextContents → List ℕ
+shownWords (words ws) = ws
+shownWords (refused why) = []
+
+-- where the text is read so
+abbrev pub afterText : TextRead → Pattern → List ℕ → List ℕ
+afterText (Words n) f t = searchReport f t
+afterText (NotRead why) f t = refusalReport why
+
+-- the two files, with room for 20,000 words
+unfoldable pub filesReport : List ℕ → List ℕ → List ℕ
+filesReport p t = afterText (inputRead p t 20000 .text) (inputRead p t 20000 .pattern) (shownWords (textContents t))
+
+unfoldable pub reported : List ℕ → List ℕ
+reported input = pick (ltb 60000 (length input)) (refusalReport FileLength) (filesReport (patternFile input) (textFile input))
+
+-- ---- the caller's list at the end
+
+-- as many of the bytes as fit over its start
+abbrev pub overlaid : List ℕ → List ℕ → List ℕ
+overlaid bytes out = take (length out) bytes ++ drop (length bytes) out
