@@ -6,9 +6,11 @@ use crate::answers::value;
 use format::TextRead;
 use matching::Listed;
 ghost use mathlib.Core.Path.{_≡_};
+ghost use Prim.Native.Nat.{min};
 ghost use lib.ListN.{length};
 ghost use Rattle.format.specs.Patterns.{patternRead};
 ghost use Rattle.format.specs.Texts.{textRead, textWritten};
+ghost use Rattle.report.specs.Report.{reported, overlaid};
 ghost use Rattle.bindings.specs.Answers.{ofPatternRead, ofTextRead};
 ghost use Rattle.bindings.specs.Counts.{countOf};
 
@@ -39,6 +41,14 @@ pub extern "C" fn bedbloomer_count(pattern: &[u8], text: &[u8]) -> u32
 {
     let mut words = [0u16; 20000];
     count_in(pattern, text, &mut words)
+}
+
+// The bytes that the program prints for this input, as many as `out` holds: how many were written.
+#[no_mangle]
+pub extern "C" fn bedbloomer_report(input: &[u8], out: &mut [u8]) -> usize
+    ensures { λ r. ⌜ (r ≡ min (length (reported (now (input .entry)))) (length (now (out .entry)))) × (now (out .exit) ≡ overlaid (reported (now (input .entry))) (now (out .entry))) ⌝ }
+{
+    report::report(input, out)
 }
 
 // Reads a pattern file.

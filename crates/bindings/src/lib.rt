@@ -14,6 +14,7 @@ pub use answers::ServedTo;
 pub use files::bedbloomer_count;
 pub use files::bedbloomer_read_pattern;
 pub use files::bedbloomer_read_text;
+pub use files::bedbloomer_report;
 pub use lists::bedbloomer_all;
 pub use lists::bedbloomer_leftmost;
 pub use lists::bedbloomer_rightmost;

@@ -7,63 +7,19 @@ use mathlib.Core.Bool.{Bool, true, false}
 use mathlib.Core.List.{List}
 use lib.Dec.{ltb}
 use lib.ListN.{length, take, drop, replicate, length-drop, length-replicate, drop-of-length-le}
-use lib.Seq.{take-at, take-all}
+use lib.Seq.{take-all}
 use borrow.Author.Tests.{le-ltb, lt-ltb, ltb-false, ltb-true}
-use Rattle.pattern.specs.declared.Pattern.{Pattern}
 use Rattle.pattern.specs.declared.refusal.Refusal.{Refusal}
 use Rattle.pattern.specs.declared.refusal.Refusal.the-variants.{FileLength}
-use Rattle.pattern.specs.declared.refusal.Verdict.{Verdict}
-use Rattle.pattern.specs.declared.refusal.Verdict.the-variants.{Accepted, Refused}
-use Rattle.pattern.specs.Tests.{pick}
-use Rattle.format.specs.Input.{afterPattern, inputRead, inputWritten, refusedInput, withPattern}
-use Rattle.format.specs.Patterns.{patternRead}
-use Rattle.format.specs.Texts.{textContents, textRead, textWritten}
-use Rattle.format.specs.Laws.Reading.{ShowsText, text-read, text-written}
-use Rattle.format.specs.Laws.TextShown.{text-shown}
+use Rattle.format.specs.Input.{inputRead, inputWritten}
+use Rattle.format.specs.Texts.{shownWords, textContents}
+use Rattle.format.specs.Laws.Input.{input-read}
 use Rattle.format.specs.declared.input.InputRead.{InputRead}
-use Rattle.format.specs.declared.texts.TextRead.{TextRead}
 use Rattle.format.specs.declared.texts.TextRead.the-variants.{Words}
 use Rattle.format.specs.declared.texts.TextRead.the-variants.{Refused as NotRead}
 use Rattle.report.specs.Files.{parted}
 use Rattle.report.specs.Lines.{refusalReport}
-use Rattle.report.specs.Report.{filesReport, reported, searchReport, shownWords}
-
--- ---- the words of both files
-
--- where words are read, they are the text file's
-module _ (p t out : List ℕ) (n : ℕ) where
-  with-text : (tr : TextRead) (f : Pattern) → withPattern Accepted f tr .text ≡ Words n → tr ≡ Words n
-  with-text (Words m) f e = e
-  with-text (NotRead why) f e = e
-
-  accepted-read : (v : Verdict) (f : Pattern) → withPattern v f (textRead t (length out)) .text ≡ Words n
-      → (afterPattern v (textWritten t out) out ≡ textWritten t out) × (textRead t (length out) ≡ Words n)
-  accepted-read Accepted f e = (refl, with-text (textRead t (length out)) f e)
-  accepted-read (Refused why) f e = let z : _≡_ {A = ℕ} 0 1 = cc in absurd (omega arith)
-
-  text-alone : inputRead p t (length out) .text ≡ Words n → (inputWritten p t out ≡ textWritten t out) × (textRead t (length out) ≡ Words n)
-  unfolding inputRead inputWritten
-  text-alone e = go (ltb 60000 (length p)) (ltb 60000 (length t)) e
-    where
-      go : (x y : Bool)
-          → pick x (refusedInput FileLength) (pick y (refusedInput FileLength) (withPattern (patternRead p .verdict) (patternRead p .pattern) (textRead t (length out)))) .text ≡ Words n
-          → (pick x out (pick y out (afterPattern (patternRead p .verdict) (textWritten t out) out)) ≡ textWritten t out) × (textRead t (length out) ≡ Words n)
-      go true y q = let z : _≡_ {A = ℕ} 0 1 = cc in absurd (omega arith)
-      go false true q = let z : _≡_ {A = ℕ} 0 1 = cc in absurd (omega arith)
-      go false false q = accepted-read (patternRead p .verdict) (patternRead p .pattern) q
-
-  shows : inputRead p t (length out) .text ≡ Words n → ShowsText t (length out) n
-  shows e = text-read t (length out) n .0 (text-alone e .1)
-
-  words-fit : inputRead p t (length out) .text ≡ Words n → n ≤ length out
-  words-fit e = shows e .fits
-
-  words-written : inputRead p t (length out) .text ≡ Words n → take n (inputWritten p t out) ≡ shownWords (textContents t)
-  words-written e =
-      let r = shows e in
-      ap (take n) (text-alone e .0 ∙ text-written t out n r)
-      ∙ take-at (r .contents) (drop (length (r .contents)) out) n (r .count)
-      ∙ ap shownWords (sym (text-shown t (r .contents) .1 (r .shows)))
+use Rattle.report.specs.Report.{filesReport, reported, searchReport}
 
 -- ---- what is reported
 
@@ -79,11 +35,11 @@ module _ (p t out : List ℕ) (size : length out ≡ 20000) {r : InputRead} (rea
   unfolding filesReport
   words-of n {after} e w =
       let q : inputRead p t (length out) .text ≡ Words n = ap (λ (x : InputRead). x .text) (sym read) ∙ e in
-      let ws : take (n - 0) after ≡ shownWords (textContents t) = ap (λ (k : ℕ). take k after) (sub-zero n) ∙ ap (take n) w ∙ words-written p t out n q in
+      let ws : take (n - 0) after ≡ shownWords (textContents t) = ap (λ (k : ℕ). take k after) (sub-zero n) ∙ ap (take n) w ∙ input-read p t out n q .start in
       rw (← room, e, ws)
 
   fit-of : (n : ℕ) → r .text ≡ Words n → n ≤ 20000
-  fit-of n e = let q : inputRead p t (length out) .text ≡ Words n = ap (λ (x : InputRead). x .text) (sym read) ∙ e in omega (arith, words-fit p t out n q)
+  fit-of n e = let q : inputRead p t (length out) .text ≡ Words n = ap (λ (x : InputRead). x .text) (sym read) ∙ e in omega (arith, input-read p t out n q .fits)
 
 -- a new list of 20,000 words
 abbrev pub new : List ℕ

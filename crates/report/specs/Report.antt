@@ -1,6 +1,6 @@
 -- What is printed for an input, by the tests in document 01's order: 12, those of the two files, 8, 9.
 use Prim.Native.Nat.{ℕ}
-use mathlib.Core.List.{List, [], _++_}
+use mathlib.Core.List.{List, _++_}
 use lib.ListN.{length, take, drop}
 use lib.Dec.{ltb}
 use Rattle.pattern.specs.Tests.{pick, inputVerdict}
@@ -16,7 +16,7 @@ use Rattle.counting.specs.declared.total.Tallied.{Tallied}
 use Rattle.counting.specs.declared.total.Tallied.the-variants.{Total}
 use Rattle.counting.specs.declared.total.Tallied.the-variants.{Refused as NotTallied}
 use Rattle.format.specs.Input.{inputRead}
-use Rattle.format.specs.Texts.{TextContents, textContents, words, refused}
+use Rattle.format.specs.Texts.{shownWords, textContents}
 use Rattle.format.specs.declared.texts.TextRead.{TextRead}
 use Rattle.format.specs.declared.texts.TextRead.the-variants.{Words}
 use Rattle.format.specs.declared.texts.TextRead.the-variants.{Refused as NotRead}
@@ -40,11 +40,6 @@ unfoldable pub searchReport : Pattern → List ℕ → List ℕ
 searchReport f t = afterLists (listed (inputVerdict f (length t)) (f .count) (leftmost f t) 16000) f t
 
 -- ---- an input
-
--- the words that a text file shows
-abbrev pub shownWords : TextContents → List ℕ
-shownWords (words ws) = ws
-shownWords (refused why) = []
 
 -- where the text is read so
 abbrev pub afterText : TextRead → Pattern → List ℕ → List ℕ

@@ -1,5 +1,5 @@
 -- What is known once both files were read: pattern and text are accepted, and the list begins with the words shown. Assumes nothing.
-use Prim.Native.Nat.{ℕ}
+use Prim.Native.Nat.{ℕ, _≤_}
 use native.Mathlib.Omega.{arith}
 use mathlib.Core.Bool.{Bool, true, false}
 use mathlib.Core.List.{List}
@@ -25,6 +25,7 @@ use Rattle.format.specs.Laws.TextShown.{text-shown}
 -- n words were read, into a list that held `out`
 pub record ReadBoth (p t out : List ℕ) (n : ℕ) : Type 0 where
   pub fine : inputVerdict (inputRead p t (length out) .pattern) n ≡ Accepted
+  pub fits : n ≤ length out
   pub count : length (shownWords (textContents t)) ≡ n
   pub start : take n (inputWritten p t out) ≡ shownWords (textContents t)
 
@@ -33,13 +34,13 @@ no-words e = let z : _≡_ {A = ℕ} 0 1 = cc in omega arith
 
 module _ (p t out : List ℕ) (n : ℕ) where
   both-read : patternRead p .verdict ≡ Accepted → textRead t (length out) ≡ Words n
-      → (inputVerdict (patternRead p .pattern) n ≡ Accepted) × (length (shownWords (textContents t)) ≡ n) × (take n (textWritten t out) ≡ shownWords (textContents t))
+      → (inputVerdict (patternRead p .pattern) n ≡ Accepted) × (n ≤ length out) × (length (shownWords (textContents t)) ≡ n) × (take n (textWritten t out) ≡ shownWords (textContents t))
   both-read v e =
       let f = patternRead p .pattern in
       let r = text-read t (length out) n .0 e in
       let s = pattern-read p f .0 (ap (λ (w : Verdict). record { verdict = w; pattern = f }) v) in
       let w : shownWords (textContents t) ≡ r .contents = ap shownWords (text-shown t (r .contents) .1 (r .shows)) in
-      (input-accepted f n .1 (record { pattern = s .limits; short = r .few }), rw w (r .count), rw (w, text-written t out n r) (take-at (r .contents) _ n (r .count)))
+      (input-accepted f n .1 (record { pattern = s .limits; short = r .few }), r .fits, rw w (r .count), rw (w, text-written t out n r) (take-at (r .contents) _ n (r .count)))
 
   -- past both tests of 12: the pattern's verdict, then how the text was read
   after-pattern : (v : Verdict) → patternRead p .verdict ≡ v → (a : TextRead) → textRead t (length out) ≡ a → withPattern v (patternRead p .pattern) a .text ≡ Words n
@@ -61,4 +62,4 @@ module _ (p t out : List ℕ) (n : ℕ) where
       go false a false b k =
           let h = after-pattern (patternRead p .verdict) refl (textRead t (length out)) refl k in
           let r = both-read (h .1) (h .2) in
-          record { fine = rw (a, b, h .0) (r .0); count = r .1; start = rw (a, b, h .1) (r .2) }
+          record { fine = rw (a, b, h .0) (r .0); fits = r .1; count = r .2; start = rw (a, b, h .1) (r .3) }
