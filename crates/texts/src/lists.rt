@@ -1,0 +1,202 @@
+// The front list, the back list, the list of all occurrences, and how many rows these have.
+use crate::cases::Case;
+use crate::cases::List;
+use crate::cases::Rows;
+use crate::cases::row;
+use crate::cases::rows_of;
+use crate::score::Score;
+use crate::score::refused;
+use crate::score::show;
+use counting::Tallied;
+use libc::STDOUT_FILENO;
+use matching::Listed;
+use pattern::Pattern;
+ghost use Prim.Native.Nat.{_<_};
+
+// What a list of nines should hold in the end, and how many of its entries are written.
+struct Wanted {
+    list: [u16; 40],
+    size: usize,
+}
+
+// What a list call answers, as the number of rows or of the refusal and its place, and the list then.
+struct Called {
+    number: u64,
+    place: u64,
+    list: [u16; 40],
+}
+
+// The place at a slot, counted from 0.
+fn place(row: [u16; 4], j: usize) -> u16 {
+    if j < 4 {
+        return row[j];
+    }
+    0
+}
+
+// Rows of m places over the start of a list of nines, of which at least one is left.
+fn filled(list: List, rows: Rows, m: usize) -> Wanted
+    ensures { λ r. ⌜ r .size < 40 ⌝ }
+{
+    let mut entries = [9u16; 40];
+    let mut i = 0;
+    if m == 0 {
+        return Wanted {
+            list: entries,
+            size: 0,
+        };
+    }
+    while i < 39 {
+        let r = i / m;
+        if rows.count <= r {
+            return Wanted {
+                list: entries,
+                size: i,
+            };
+        }
+        entries[i] = place(row(list, rows, r), i % m);
+        i += 1;
+    }
+    Wanted {
+        list: entries,
+        size: i,
+    }
+}
+
+fn call(list: List, pattern: Pattern, text: &[u16], entries: &mut [u16]) -> Listed {
+    match list {
+        List::Front => matching::leftmost(pattern, text, entries),
+        List::Back => matching::rightmost(pattern, text, entries),
+        List::All => counting::all(pattern, text, entries),
+    }
+}
+
+// The call with the first `room` entries, or with all of them.
+fn call_with(
+    list: List,
+    pattern: Pattern,
+    text: &[u16],
+    entries: &mut [u16],
+    room: usize,
+) -> Listed {
+    if room <= entries.len() {
+        return call(list, pattern, text, &mut entries[0..room]);
+    }
+    call(list, pattern, text, entries)
+}
+
+// How many rows, or the refusal's number.
+fn rows_number(answer: Listed) -> u64 {
+    match answer {
+        Listed::Rows(n) => n as u64,
+        Listed::Refused(why) => refused(why),
+    }
+}
+
+// The refusal's place, and 0 where nothing is refused.
+fn rows_place(answer: Listed) -> u64 {
+    match answer {
+        Listed::Rows(_) => 0,
+        Listed::Refused(why) => why.place() as u64,
+    }
+}
+
+// The call with room for so many of a list's nines.
+fn tried(list: List, pattern: Pattern, text: &[u16], room: usize) -> Called {
+    let mut entries = [9u16; 40];
+    let answer = call_with(list, pattern, text, &mut entries, room);
+    Called {
+        number: rows_number(answer),
+        place: rows_place(answer),
+        list: entries,
+    }
+}
+
+// Checks a call's three results.
+fn check_called(score: Score, number: u64, place: u64, list: [u16; 40], got: Called) -> Score {
+    let entries = got.list;
+    score
+        .number(number, got.number)
+        .number(place, got.place)
+        .list(&list, &entries)
+}
+
+// With room for one entry more than the rows, that entry stays.
+fn check_long(score: Score, list: List, case: Case, text: &[u16]) -> Score {
+    let pattern = case.pattern;
+    let rows = rows_of(list, case);
+    let wanted = filled(list, rows, pattern.count);
+    let entries = wanted.list;
+    let got = tried(list, pattern, text, wanted.size + 1);
+    show(b" ", got.number);
+    check_called(score, rows.count as u64, 0, entries, got)
+}
+
+// The place of the refusal 8.
+fn short_place(list: List, count: usize) -> u64 {
+    match list {
+        List::Front => count as u64,
+        List::Back => count as u64,
+        List::All => 0,
+    }
+}
+
+// With room for one entry less than the rows, 8, and every entry stays.
+fn check_short(score: Score, list: List, case: Case, text: &[u16]) -> Score {
+    let pattern = case.pattern;
+    let rows = rows_of(list, case);
+    let wanted = filled(list, rows, pattern.count);
+    if wanted.size == 0 {
+        return score;
+    }
+    let got = tried(list, pattern, text, wanted.size - 1);
+    check_called(
+        score,
+        100008,
+        short_place(list, rows.count),
+        [9u16; 40],
+        got,
+    )
+}
+
+// One of the three lists.
+fn check_list(score: Score, list: List, case: Case, text: &[u16]) -> Score {
+    check_short(check_long(score, list, case, text), list, case, text)
+}
+
+// The count alone.
+fn check_support(score: Score, case: Case, text: &[u16]) -> Score {
+    let pattern = case.pattern;
+    let rows = case.listed;
+    let got = rows_number(matching::support(pattern, text));
+    show(b" support ", got);
+    score.number(rows.count as u64, got)
+}
+
+// The number of all occurrences, or the refusal's.
+fn tally_number(answer: Tallied) -> u64 {
+    match answer {
+        Tallied::Total(n) => n,
+        Tallied::Refused(why) => refused(why),
+    }
+}
+
+fn check_tally(score: Score, case: Case, text: &[u16]) -> Score {
+    let pattern = case.pattern;
+    let rows = case.all;
+    let got = tally_number(counting::tally(pattern, text));
+    show(b" tally ", got);
+    score.number(rows.count as u64, got)
+}
+
+// The lists and counts of a text.
+pub fn check_lists(score: Score, case: Case, text: &[u16]) -> Score {
+    io::write_all(STDOUT_FILENO, b" front");
+    let front = check_list(score, List::Front, case, text);
+    io::write_all(STDOUT_FILENO, b" back");
+    let back = check_list(front, List::Back, case, text);
+    let support = check_support(back, case, text);
+    io::write_all(STDOUT_FILENO, b" all");
+    let all = check_list(support, List::All, case, text);
+    check_tally(all, case, text)
+}
