@@ -1,35 +1,28 @@
 // The tables' texts, patterns and rows, as the runs take them.
 use crate::tables::ALL;
 use crate::tables::BACK;
-use crate::tables::COUNTS;
 use crate::tables::FRONT;
 use crate::tables::NONE;
+use crate::tables::NUMBERS;
 use crate::tables::PATTERNS;
-use crate::tables::SLOTS;
-use crate::tables::SPANS;
-use crate::tables::TALLIES;
 use crate::tables::WORDS;
 use pattern::Pattern;
 use std::num::wrapping_add_usize;
 ghost use Prim.Native.Nat.{_<_, _≤_};
 
-// A list of rows.
-pub enum List {
-    Front,
-    Back,
-    All,
-}
-
-// A text's rows in a table: the first, and how many.
+// A list of up to eight rows, in the tables' layout.
 pub struct Rows {
-    pub first: usize,
+    pub places: [u16; 32],
     pub count: usize,
 }
 
-// A text's pattern, its rows in the front and back lists and among all occurrences, and a row that is no occurrence.
+// A text with its pattern, its three lists, and a row that is no occurrence.
 pub struct Case {
+    pub words: [u16; 16],
+    pub length: usize,
     pub pattern: Pattern,
-    pub listed: Rows,
+    pub front: Rows,
+    pub back: Rows,
     pub all: Rows,
     pub none: [u16; 4],
 }
@@ -42,89 +35,102 @@ pub fn first(list: &[u16], n: usize) -> &[u16] {
     list
 }
 
-// The words of text number k, counted from 0.
-pub fn words_of(k: usize) -> [u16; 16]
-    requires { ⌜ k < 9 ⌝ }
-{
-    WORDS[k]
-}
-
-// The pattern of the slots number `from` to `to` - 1.
-fn built(from: usize, to: usize) -> Pattern {
+// The pattern of a line of the table with so many slots.
+fn built(line: [u16; 14], slots: usize) -> Pattern {
     let mut pattern = Pattern::new();
-    let mut j = from;
-    while j < to {
-        if j < 29 {
-            let slot = SLOTS[j];
-            let word = [slot[2]];
-            let longer = pattern.with_slot(slot[0], slot[1], &word);
+    for j in 0..4 {
+        if j < slots {
+            let word = [line[3 * j + 4]];
+            let longer = pattern.with_slot(line[3 * j + 2], line[3 * j + 3], &word);
             pattern = longer.pattern;
         }
-        j += 1;
     }
-    pattern
+    pattern.with_span(line[0], line[1])
 }
 
-// The case of text number k, counted from 0.
+// A line of the table of all occurrences; zeros past its end.
+fn all_line(i: usize) -> [u16; 16] {
+    if i < 11 {
+        return ALL[i];
+    }
+    [0u16; 16]
+}
+
+// Two lines, one after the other.
+fn joined(a: [u16; 16], b: [u16; 16]) -> [u16; 32] {
+    let mut places = [0u16; 32];
+    for i in 0..16 {
+        places[i] = a[i];
+        places[i + 16] = b[i];
+    }
+    places
+}
+
+// The front list of text number k, counted from 0.
+fn front_of(k: usize, count: usize) -> Rows
+    requires { ⌜ k < 9 ⌝ }
+{
+    Rows {
+        places: joined(FRONT[k], [0u16; 16]),
+        count,
+    }
+}
+
+// The back list of text number k.
+fn back_of(k: usize, count: usize) -> Rows
+    requires { ⌜ k < 9 ⌝ }
+{
+    Rows {
+        places: joined(BACK[k], [0u16; 16]),
+        count,
+    }
+}
+
+// All occurrences from line i of the table.
+fn all_from(i: usize, count: usize) -> Rows {
+    Rows {
+        places: joined(all_line(i), all_line(wrapping_add_usize(i, 1))),
+        count,
+    }
+}
+
+// The pattern of text number k.
+fn pattern_of(k: usize, slots: usize) -> Pattern
+    requires { ⌜ k < 9 ⌝ }
+{
+    built(PATTERNS[k], slots)
+}
+
+fn numbers_of(k: usize) -> [usize; 5]
+    requires { ⌜ k < 9 ⌝ }
+{
+    NUMBERS[k]
+}
+
+// The case of text number k.
 pub fn case_of(k: usize) -> Case
     requires { ⌜ k < 9 ⌝ }
 {
-    let slots = PATTERNS[k];
-    let span = SPANS[k];
-    let counts = COUNTS[k];
-    let tallies = TALLIES[k];
+    let numbers = numbers_of(k);
     Case {
-        pattern: built(slots[0], slots[1]).with_span(span[0], span[1]),
-        listed: Rows {
-            first: counts[0],
-            count: counts[1],
-        },
-        all: Rows {
-            first: tallies[0],
-            count: tallies[1],
-        },
+        words: WORDS[k],
+        length: numbers[0],
+        pattern: pattern_of(k, numbers[1]),
+        front: front_of(k, numbers[2]),
+        back: back_of(k, numbers[2]),
+        all: all_from(numbers[4], numbers[3]),
         none: NONE[k],
     }
 }
 
-// Where a list's rows stand.
-pub fn rows_of(list: List, case: Case) -> Rows {
-    match list {
-        List::Front => case.listed,
-        List::Back => case.listed,
-        List::All => case.all,
+// Row number r, counted from 0; zeros where there is none.
+pub fn row(rows: Rows, r: usize) -> [u16; 4] {
+    let places = rows.places;
+    if 8 <= r {
+        return [0u16; 4];
     }
-}
-
-// Row number r of the rows, counted from 0; zeros where the table has none.
-pub fn row(list: List, rows: Rows, r: usize) -> [u16; 4] {
-    let i = wrapping_add_usize(rows.first, r);
-    match list {
-        List::Front => front_row(i),
-        List::Back => back_row(i),
-        List::All => any_row(i),
-    }
-}
-
-fn front_row(i: usize) -> [u16; 4] {
-    if i < 15 {
-        return FRONT[i];
-    }
-    [0u16; 4]
-}
-
-fn back_row(i: usize) -> [u16; 4] {
-    if i < 15 {
-        return BACK[i];
-    }
-    [0u16; 4]
-}
-
-fn any_row(i: usize) -> [u16; 4] {
-    if i < 27 {
-        return ALL[i];
-    }
-    [0u16; 4]
+    let i = r * 4;
+    [places[i], places[i + 1], places[i + 2], places[i + 3]]
 }
 
 // The row with zeros after it, as a search gives it.

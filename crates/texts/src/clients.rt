@@ -1,6 +1,6 @@
 // The cursors of several clients, on text 1.
 use crate::cases::Case;
-use crate::cases::List;
+use crate::cases::Rows;
 use crate::cases::padded;
 use crate::cases::row;
 use crate::score::Score;
@@ -50,41 +50,38 @@ fn next(cursors: Cursors, client: usize, pattern: Pattern, text: &[u16]) -> Answ
     }
 }
 
-// The call in row i of the table.
-fn call(cursors: Cursors, i: usize, pattern: Pattern, text: &[u16]) -> Answer
-    requires { ⌜ i < 17 ⌝ }
-{
-    let line = CALLS[i];
+// Makes the call in a line of the table.
+fn call(cursors: Cursors, line: [usize; 5], pattern: Pattern, text: &[u16]) -> Answer {
     if line[0] == 1 {
         return rewind(cursors, line[1]);
     }
     next(cursors, line[1], pattern, text)
 }
 
-// The row that the call in row i of the table gives, with zeros after it.
-fn given(case: Case, i: usize) -> [u16; 16]
-    requires { ⌜ i < 17 ⌝ }
-{
-    let rows = case.listed;
-    let r = CALLS[i][3];
+// The row that the call gives, with zeros after it.
+fn given(rows: Rows, r: usize) -> [u16; 16] {
     if r == 0 {
         return [0u16; 16];
     }
-    padded(row(List::Front, rows, r - 1))
+    padded(row(rows, r - 1))
 }
 
 // One call's answer, and the number served then.
-fn check_call(score: Score, case: Case, i: usize, answer: Answer) -> Score
-    requires { ⌜ i < 17 ⌝ }
-{
-    let line = CALLS[i];
+fn check_call(score: Score, line: [usize; 5], rows: Rows, answer: Answer) -> Score {
     let after = answer.cursors;
     let places = answer.places;
-    let expected = given(case, i);
+    let expected = given(rows, line[3]);
     let answered = score
         .number(line[2] as u64, answer.number)
         .list(&expected, &places);
     answered.number(line[4] as u64, after.served as u64)
+}
+
+// Line i of the table.
+fn line_of(i: usize) -> [usize; 5]
+    requires { ⌜ i < 17 ⌝ }
+{
+    CALLS[i]
 }
 
 // The calls in the rows `from` to `to` - 1 of the table, one after the other from a state.
@@ -99,11 +96,13 @@ fn check_calls(
     requires { ⌜ to ≤ 17 ⌝ }
 {
     let pattern = case.pattern;
+    let rows = case.front;
     let mut cursors = start;
     let mut after = score;
     for i in from..to {
-        let answer = call(cursors, i, pattern, text);
-        after = check_call(after, case, i, answer);
+        let line = line_of(i);
+        let answer = call(cursors, line, pattern, text);
+        after = check_call(after, line, rows, answer);
         cursors = answer.cursors;
     }
     after

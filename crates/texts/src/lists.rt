@@ -1,17 +1,22 @@
 // The front list, the back list, the list of all occurrences, and how many rows these have.
 use crate::cases::Case;
-use crate::cases::List;
 use crate::cases::Rows;
+use crate::cases::first;
 use crate::cases::row;
-use crate::cases::rows_of;
 use crate::score::Score;
 use crate::score::refused;
 use crate::score::show;
 use counting::Tallied;
-use libc::STDOUT_FILENO;
 use matching::Listed;
 use pattern::Pattern;
 ghost use Prim.Native.Nat.{_<_};
+
+// Which of a text's lists.
+enum List {
+    Front,
+    Back,
+    All,
+}
 
 // What a list of nines should hold in the end, and how many of its entries are written.
 struct Wanted {
@@ -19,11 +24,12 @@ struct Wanted {
     size: usize,
 }
 
-// What a list call answers, as the number of rows or of the refusal and its place, and the list then.
+// What a list call answers, as the number of rows or of the refusal and its place, and the list then, of which it was lent `room` entries.
 struct Called {
     number: u64,
     place: u64,
     list: [u16; 40],
+    room: usize,
 }
 
 // The place at a slot, counted from 0.
@@ -35,7 +41,7 @@ fn place(row: [u16; 4], j: usize) -> u16 {
 }
 
 // Rows of m places over the start of a list of nines, of which at least one is left.
-fn filled(list: List, rows: Rows, m: usize) -> Wanted
+fn filled(rows: Rows, m: usize) -> Wanted
     ensures { λ r. ⌜ r .size < 40 ⌝ }
 {
     let mut entries = [9u16; 40];
@@ -54,7 +60,7 @@ fn filled(list: List, rows: Rows, m: usize) -> Wanted
                 size: i,
             };
         }
-        entries[i] = place(row(list, rows, r), i % m);
+        entries[i] = place(row(rows, r), i % m);
         i += 1;
     }
     Wanted {
@@ -63,6 +69,7 @@ fn filled(list: List, rows: Rows, m: usize) -> Wanted
     }
 }
 
+// The list call itself.
 fn call(list: List, pattern: Pattern, text: &[u16], entries: &mut [u16]) -> Listed {
     match list {
         List::Front => matching::leftmost(pattern, text, entries),
@@ -101,7 +108,7 @@ fn rows_place(answer: Listed) -> u64 {
     }
 }
 
-// The call with room for so many of a list's nines.
+// The call with room for so many entries, all nines.
 fn tried(list: List, pattern: Pattern, text: &[u16], room: usize) -> Called {
     let mut entries = [9u16; 40];
     let answer = call_with(list, pattern, text, &mut entries, room);
@@ -109,27 +116,15 @@ fn tried(list: List, pattern: Pattern, text: &[u16], room: usize) -> Called {
         number: rows_number(answer),
         place: rows_place(answer),
         list: entries,
+        room,
     }
 }
 
-// Checks a call's three results.
+// Checks what a call answers and leaves.
 fn check_called(score: Score, number: u64, place: u64, list: [u16; 40], got: Called) -> Score {
     let entries = got.list;
-    score
-        .number(number, got.number)
-        .number(place, got.place)
-        .list(&list, &entries)
-}
-
-// With room for one entry more than the rows, that entry stays.
-fn check_long(score: Score, list: List, case: Case, text: &[u16]) -> Score {
-    let pattern = case.pattern;
-    let rows = rows_of(list, case);
-    let wanted = filled(list, rows, pattern.count);
-    let entries = wanted.list;
-    let got = tried(list, pattern, text, wanted.size + 1);
-    show(b" ", got.number);
-    check_called(score, rows.count as u64, 0, entries, got)
+    let answered = score.number(number, got.number).number(place, got.place);
+    answered.list(first(&list, got.room), first(&entries, got.room))
 }
 
 // The place of the refusal 8.
@@ -141,33 +136,50 @@ fn short_place(list: List, count: usize) -> u64 {
     }
 }
 
-// With room for one entry less than the rows, 8, and every entry stays.
-fn check_short(score: Score, list: List, case: Case, text: &[u16]) -> Score {
+// The rows that the list should have.
+fn rows_of(list: List, case: Case) -> Rows {
+    match list {
+        List::Front => case.front,
+        List::Back => case.back,
+        List::All => case.all,
+    }
+}
+
+fn show_rows(list: List, n: u64) {
+    match list {
+        List::Front => show(b": front ", n),
+        List::Back => show(b" back ", n),
+        List::All => show(b" all ", n),
+    }
+}
+
+// A list with room for one entry more than its rows, which stays, and with room for one less, where it is refused and all stay.
+fn check_list(score: Score, list: List, case: Case, text: &[u16]) -> Score {
     let pattern = case.pattern;
     let rows = rows_of(list, case);
-    let wanted = filled(list, rows, pattern.count);
-    if wanted.size == 0 {
-        return score;
+    let wanted = filled(rows, pattern.count);
+    let entries = wanted.list;
+    let size = wanted.size;
+    let long = tried(list, pattern, text, size + 1);
+    show_rows(list, long.number);
+    let written = check_called(score, rows.count as u64, 0, entries, long);
+    if size == 0 {
+        return written;
     }
-    let got = tried(list, pattern, text, wanted.size - 1);
+    let short = tried(list, pattern, text, size - 1);
     check_called(
-        score,
+        written,
         100008,
         short_place(list, rows.count),
         [9u16; 40],
-        got,
+        short,
     )
-}
-
-// One of the three lists.
-fn check_list(score: Score, list: List, case: Case, text: &[u16]) -> Score {
-    check_short(check_long(score, list, case, text), list, case, text)
 }
 
 // The count alone.
 fn check_support(score: Score, case: Case, text: &[u16]) -> Score {
     let pattern = case.pattern;
-    let rows = case.listed;
+    let rows = case.front;
     let got = rows_number(matching::support(pattern, text));
     show(b" support ", got);
     score.number(rows.count as u64, got)
@@ -191,12 +203,9 @@ fn check_tally(score: Score, case: Case, text: &[u16]) -> Score {
 
 // The lists and counts of a text.
 pub fn check_lists(score: Score, case: Case, text: &[u16]) -> Score {
-    io::write_all(STDOUT_FILENO, b" front");
     let front = check_list(score, List::Front, case, text);
-    io::write_all(STDOUT_FILENO, b" back");
     let back = check_list(front, List::Back, case, text);
     let support = check_support(back, case, text);
-    io::write_all(STDOUT_FILENO, b" all");
     let all = check_list(support, List::All, case, text);
     check_tally(all, case, text)
 }

@@ -9,7 +9,6 @@ mod tables;
 
 use cases::case_of;
 use cases::first;
-use cases::words_of;
 use clients::check_clients;
 use libc::STDOUT_FILENO;
 use lists::check_lists;
@@ -17,18 +16,16 @@ use rows::check_rows;
 use score::Score;
 use score::show;
 use searches::check_searches;
-use tables::LENGTHS;
 ghost use Prim.Native.Nat.{_<_};
 
 // Text number k, counted from 0: a line with what it comes to.
 fn check_text(score: Score, k: usize) -> Score
     requires { ⌜ k < 9 ⌝ }
 {
-    let words = words_of(k);
-    let text = first(&words, LENGTHS[k]);
     let case = case_of(k);
+    let words = case.words;
+    let text = first(&words, case.length);
     show(b"text ", k as u64 + 1);
-    io::write_all(STDOUT_FILENO, b":");
     let lists = check_lists(score, case, text);
     let searches = check_searches(lists, case, text);
     let rows = check_rows(searches, case, text);
@@ -38,10 +35,11 @@ fn check_text(score: Score, k: usize) -> Score
 
 // The cursors on text 1.
 fn check_cursors(score: Score) -> Score {
-    let words = words_of(0);
-    let text = first(&words, LENGTHS[0]);
-    io::write_all(STDOUT_FILENO, b"cursors on text 1: calls 17");
-    let clients = check_clients(score, case_of(0), text);
+    let case = case_of(0);
+    let words = case.words;
+    let text = first(&words, case.length);
+    show(b"cursors on text 1: calls ", 17);
+    let clients = check_clients(score, case, text);
     clients.close(score);
     clients
 }

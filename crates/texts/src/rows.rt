@@ -1,6 +1,5 @@
 // The test and the excerpt of rows.
 use crate::cases::Case;
-use crate::cases::List;
 use crate::cases::Rows;
 use crate::cases::first;
 use crate::cases::row;
@@ -77,7 +76,7 @@ fn check_hit(score: Score, row: [u16; 4], pattern: Pattern, text: &[u16]) -> Sco
 fn check_hits(score: Score, rows: Rows, pattern: Pattern, text: &[u16]) -> Score {
     let mut after = score;
     for r in 0..rows.count {
-        after = check_hit(after, row(List::All, rows, r), pattern, text);
+        after = check_hit(after, row(rows, r), pattern, text);
     }
     after
 }

@@ -1,6 +1,5 @@
 // Searches from the start, from the end, and from each row of the front and back lists.
 use crate::cases::Case;
-use crate::cases::List;
 use crate::cases::Rows;
 use crate::cases::first;
 use crate::cases::padded;
@@ -24,13 +23,13 @@ struct Step {
 fn forward(rows: Rows, k: usize) -> Step {
     let mut marks = [0u16; 4];
     if 0 < k {
-        marks = row(List::Front, rows, k - 1);
+        marks = row(rows, k - 1);
     }
     if k < rows.count {
         return Step {
             marks,
             number: 1,
-            row: row(List::Front, rows, k),
+            row: row(rows, k),
         };
     }
     Step {
@@ -44,13 +43,13 @@ fn forward(rows: Rows, k: usize) -> Step {
 fn backward(rows: Rows, k: usize) -> Step {
     let mut marks = [65535u16; 4];
     if k < rows.count {
-        marks = row(List::Back, rows, k);
+        marks = row(rows, k);
     }
     if 0 < k {
         return Step {
             marks,
             number: 1,
-            row: row(List::Back, rows, k - 1),
+            row: row(rows, k - 1),
         };
     }
     Step {
@@ -94,17 +93,22 @@ fn search_backward(score: Score, rows: Rows, k: usize, pattern: Pattern, text: &
     check_search(score, step, found)
 }
 
-// The searches of a text, one more in each direction than its count.
+// One search more in each direction than there are rows.
+fn check_each(score: Score, front: Rows, back: Rows, pattern: Pattern, text: &[u16]) -> Score {
+    let mut after = score;
+    for k in 0..=front.count {
+        after = search_forward(after, front, k, pattern, text);
+        after = search_backward(after, back, k, pattern, text);
+    }
+    after
+}
+
+// The searches of a text.
 pub fn check_searches(score: Score, case: Case, text: &[u16]) -> Score {
     let pattern = case.pattern;
-    let rows = case.listed;
-    let mut next = score;
-    let mut done = 0;
-    for k in 0..=rows.count {
-        next = search_forward(next, rows, k, pattern, text);
-        next = search_backward(next, rows, k, pattern, text);
-        done = wrapping_add_u64(done, 2);
-    }
-    show(b" searches ", done);
-    next
+    let front = case.front;
+    let back = case.back;
+    let each = wrapping_add_u64(front.count as u64, 1);
+    show(b" searches ", wrapping_add_u64(each, each));
+    check_each(score, front, back, pattern, text)
 }

@@ -5,13 +5,16 @@ use Rattle.texts.proofs.clients.check_calls.Statement.{statement}
 use Rattle.texts.proofs.clients.check_calls.Tie as tie
 
 abbrev Inv-loop : tie.InvT-loop
-Inv-loop case text from to pattern cursors₀ after₀ i₀ cursors after i = from ≤ i
+Inv-loop text from to pattern rows cursors₀ after₀ i₀ cursors after i = from ≤ i
 
 abbrev μ-loop : tie.MeasureT-loop
-μ-loop case text from to pattern cursors₀ after₀ i₀ cursors after i = to - i
+μ-loop text from to pattern rows cursors₀ after₀ i₀ cursors after i = to - i
 
 loop-holds : tie.Need-loop-holds Inv-loop μ-loop
 loop-holds c = search needs
+
+line-of-requires : tie.Need-line-of-requires Inv-loop μ-loop
+line-of-requires c κs = search needs
 
 call-requires : tie.Need-call-requires Inv-loop μ-loop
 call-requires c κs = search needs
@@ -38,6 +41,7 @@ check-calls-spec =
     Inv-loop
     μ-loop
     loop-holds
+    line-of-requires
     call-requires
     check-call-requires
     add-i

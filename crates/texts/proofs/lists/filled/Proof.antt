@@ -7,10 +7,10 @@ use Rattle.texts.proofs.lists.filled.Statement.{statement}
 use Rattle.texts.proofs.lists.filled.Tie as tie
 
 abbrev Inv-loop : tie.InvT-loop
-Inv-loop list rows m entries₀ i₀ entries i = (i < 40) × (length entries ≡ 40)
+Inv-loop rows m entries₀ i₀ entries i = (i < 40) × (length entries ≡ 40)
 
 abbrev μ-loop : tie.MeasureT-loop
-μ-loop list rows m entries₀ i₀ entries i = 40 - i
+μ-loop rows m entries₀ i₀ entries i = 40 - i
 
 returns : tie.Need-returns Inv-loop μ-loop
 returns c = search needs
