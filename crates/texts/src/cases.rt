@@ -8,7 +8,7 @@ use crate::tables::PATTERNS;
 use crate::tables::WORDS;
 use pattern::Pattern;
 use std::num::wrapping_add_usize;
-ghost use Prim.Native.Nat.{_<_, _≤_};
+ghost use Prim.Native.Nat.{_<_};
 
 // A list of up to eight rows, in the tables' layout.
 pub struct Rows {
@@ -35,17 +35,20 @@ pub fn first(list: &[u16], n: usize) -> &[u16] {
     list
 }
 
-// The pattern of a line of the table with so many slots.
-fn built(line: [u16; 14], slots: usize) -> Pattern {
-    let mut pattern = Pattern::new();
-    for j in 0..4 {
-        if j < slots {
-            let word = [line[3 * j + 4]];
-            let longer = pattern.with_slot(line[3 * j + 2], line[3 * j + 3], &word);
-            pattern = longer.pattern;
-        }
-    }
-    pattern.with_span(line[0], line[1])
+// The pattern with one slot more; as it was for the word 0, which is refused.
+fn longer(pattern: Pattern, low: u16, high: u16, word: u16) -> Pattern {
+    let words = [word];
+    let extended = pattern.with_slot(low, high, &words);
+    extended.pattern
+}
+
+// The pattern of a line of the table.
+fn built(line: [u16; 14]) -> Pattern {
+    let one = longer(Pattern::new(), line[2], line[3], line[4]);
+    let two = longer(one, line[5], line[6], line[7]);
+    let three = longer(two, line[8], line[9], line[10]);
+    let four = longer(three, line[11], line[12], line[13]);
+    four.with_span(line[0], line[1])
 }
 
 // A line of the table of all occurrences; zeros past its end.
@@ -95,16 +98,28 @@ fn all_from(i: usize, count: usize) -> Rows {
 }
 
 // The pattern of text number k.
-fn pattern_of(k: usize, slots: usize) -> Pattern
+fn pattern_of(k: usize) -> Pattern
     requires { ⌜ k < 9 ⌝ }
 {
-    built(PATTERNS[k], slots)
+    built(PATTERNS[k])
 }
 
-fn numbers_of(k: usize) -> [usize; 5]
+fn words_of(k: usize) -> [u16; 16]
+    requires { ⌜ k < 9 ⌝ }
+{
+    WORDS[k]
+}
+
+fn numbers_of(k: usize) -> [usize; 4]
     requires { ⌜ k < 9 ⌝ }
 {
     NUMBERS[k]
+}
+
+fn none_of(k: usize) -> [u16; 4]
+    requires { ⌜ k < 9 ⌝ }
+{
+    NONE[k]
 }
 
 // The case of text number k.
@@ -113,13 +128,13 @@ pub fn case_of(k: usize) -> Case
 {
     let numbers = numbers_of(k);
     Case {
-        words: WORDS[k],
+        words: words_of(k),
         length: numbers[0],
-        pattern: pattern_of(k, numbers[1]),
-        front: front_of(k, numbers[2]),
-        back: back_of(k, numbers[2]),
-        all: all_from(numbers[4], numbers[3]),
-        none: NONE[k],
+        pattern: pattern_of(k),
+        front: front_of(k, numbers[1]),
+        back: back_of(k, numbers[1]),
+        all: all_from(numbers[3], numbers[2]),
+        none: none_of(k),
     }
 }
 

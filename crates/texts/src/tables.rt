@@ -14,7 +14,7 @@ pub(crate) const WORDS: [[u16; 16]; 9] = [
     [0, 0, 0, 0, 0, 0, 0, 0, 0, 0, 0, 0, 0, 0, 0, 0],
 ];
 
-// The span limits of each pattern, then low, high and word of each slot, with zeros after three slots. The empty text, which leaves its pattern open, has the first one.
+// The span limits of each pattern, then low, high and word of each slot, with zeros after three slots: a slot with the word 0 is refused and changes nothing. The empty text, which leaves its pattern open, has the first one.
 pub(crate) const PATTERNS: [[u16; 14]; 9] = [
     // a[0,1]g[0,1]a
     [1, 20000, 0, 0, 1, 0, 1, 4, 0, 1, 1, 0, 0, 0],
@@ -35,17 +35,17 @@ pub(crate) const PATTERNS: [[u16; 14]; 9] = [
     [1, 20000, 0, 0, 1, 0, 1, 4, 0, 1, 1, 0, 0, 0],
 ];
 
-// Of each text: its words, the slots of its pattern, the count, the tally, and its first line in ALL.
-pub(crate) const NUMBERS: [[usize; 5]; 9] = [
-    [8, 3, 2, 3, 0],
-    [8, 3, 2, 2, 1],
-    [9, 3, 2, 3, 2],
-    [9, 4, 2, 4, 3],
-    [16, 4, 4, 8, 4],
-    [9, 3, 1, 5, 6],
-    [5, 3, 1, 1, 8],
-    [4, 3, 1, 1, 9],
-    [0, 3, 0, 0, 10],
+// Of each text: its words, the count, the tally, and its first line in ALL.
+pub(crate) const NUMBERS: [[usize; 4]; 9] = [
+    [8, 2, 3, 0],
+    [8, 2, 2, 1],
+    [9, 2, 3, 2],
+    [9, 2, 4, 3],
+    [16, 4, 8, 4],
+    [9, 1, 5, 6],
+    [5, 1, 1, 8],
+    [4, 1, 1, 9],
+    [0, 0, 0, 10],
 ];
 
 // The front list of each text, four places for a row, the last of them 0 where there are three slots; then zeros.
