@@ -104,18 +104,21 @@ fn pattern_of(k: usize) -> Pattern
     built(PATTERNS[k])
 }
 
+// The words of text number k, with zeros after them.
 fn words_of(k: usize) -> [u16; 16]
     requires { ⌜ k < 9 ⌝ }
 {
     WORDS[k]
 }
 
+// The numbers of text number k.
 fn numbers_of(k: usize) -> [usize; 4]
     requires { ⌜ k < 9 ⌝ }
 {
     NUMBERS[k]
 }
 
+// The row of text number k that is no occurrence.
 fn none_of(k: usize) -> [u16; 4]
     requires { ⌜ k < 9 ⌝ }
 {

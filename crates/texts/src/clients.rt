@@ -27,6 +27,7 @@ fn verdict_number(verdict: Verdict) -> u64 {
     }
 }
 
+// Rewinds the client.
 fn rewind(cursors: Cursors, client: usize) -> Answer {
     let rewound = cursors.rewind(client);
     let verdict = rewound.verdict;
@@ -38,6 +39,7 @@ fn rewind(cursors: Cursors, client: usize) -> Answer {
     }
 }
 
+// Serves the client.
 fn next(cursors: Cursors, client: usize, pattern: Pattern, text: &[u16]) -> Answer {
     let served = cursors.next(client, pattern, text);
     let outcome = served.outcome;

@@ -145,6 +145,7 @@ fn rows_of(list: List, case: Case) -> Rows {
     }
 }
 
+// Writes the list's name and how many rows it has.
 fn show_rows(list: List, n: u64) {
     match list {
         List::Front => show(b": front ", n),
@@ -193,6 +194,7 @@ fn tally_number(answer: Tallied) -> u64 {
     }
 }
 
+// The tally.
 fn check_tally(score: Score, case: Case, text: &[u16]) -> Score {
     let pattern = case.pattern;
     let rows = case.all;

@@ -19,6 +19,7 @@ fn tested_number(answer: Tested) -> u64 {
     }
 }
 
+// A place as an index.
 fn wide(x: u16) -> usize {
     x as usize
 }

@@ -28,6 +28,7 @@ fn show_list(list: &[u16]) {
     }
 }
 
+// An entry as a number to write.
 fn wide(x: u16) -> u64 {
     x as u64
 }
@@ -47,6 +48,7 @@ fn same(a: &[u16], b: &[u16]) -> bool {
 }
 
 impl Score {
+    // No checks yet.
     pub fn new() -> Self {
         Score { done: 0, failed: 0 }
     }

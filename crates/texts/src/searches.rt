@@ -19,7 +19,7 @@ struct Step {
     row: [u16; 4],
 }
 
-// Search number k of the front list: from row k, counted from 1, or from zeros, to the row after it.
+// What search number k of the front list is: from row k, counted from 1, or from zeros, to the row after it.
 fn forward(rows: Rows, k: usize) -> Step {
     let mut marks = [0u16; 4];
     if 0 < k {
@@ -39,7 +39,7 @@ fn forward(rows: Rows, k: usize) -> Step {
     }
 }
 
-// Search number k of the back list: from row k, counted from 0, or from marks past every place, to the row before it.
+// What search number k of the back list is: from row k, counted from 0, or from marks past every place, to the row before it.
 fn backward(rows: Rows, k: usize) -> Step {
     let mut marks = [65535u16; 4];
     if k < rows.count {
@@ -79,6 +79,7 @@ fn check_search(score: Score, step: Step, found: Search) -> Score {
         .list(&expected, &places)
 }
 
+// Search number k of the front list.
 fn search_forward(score: Score, rows: Rows, k: usize, pattern: Pattern, text: &[u16]) -> Score {
     let step = forward(rows, k);
     let marks = step.marks;
@@ -86,6 +87,7 @@ fn search_forward(score: Score, rows: Rows, k: usize, pattern: Pattern, text: &[
     check_search(score, step, found)
 }
 
+// Search number k of the back list.
 fn search_backward(score: Score, rows: Rows, k: usize, pattern: Pattern, text: &[u16]) -> Score {
     let step = backward(rows, k);
     let marks = step.marks;

@@ -102,7 +102,8 @@ pub(crate) const NONE: [[u16; 4]; 9] = [
     [1, 2, 3, 0],
 ];
 
-// Calls of the cursors on text 1: whether it rewinds, the client, the answer's number, the row of FRONT that is given, from 1, and the number served then.
+// Calls of the cursors on text 1: 1 to rewind and 0 for the next occurrence, the client, the answer, the row of the front list that is given, from 1, and the number served then.
+// An answer is 1 for an occurrence, 0 for none or for a rewind, and 100,000 and the refusal's number.
 pub(crate) const CALLS: [[usize; 5]; 17] = [
     // from a fresh state
     [0, 1, 1, 1, 1],

@@ -1,4 +1,4 @@
--- `texts::clients::check_calls` is safe and ends: it stays in the table.
+-- `texts::clients::check_calls` is safe and ends: its lines stand in the table.
 use borrow.Author.Needs.{needs}
 use Prim.Native.Nat.{_≤_, _-_}
 use Rattle.texts.proofs.clients.check_calls.Statement.{statement}

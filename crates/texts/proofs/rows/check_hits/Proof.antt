@@ -1,4 +1,4 @@
--- `texts::rows::check_hits` is safe and ends.
+-- `texts::rows::check_hits` is safe and ends: a turn for each row.
 use borrow.Author.Needs.{needs}
 use Prim.Native.Nat.{_≤_, _-_}
 use Rattle.texts.proofs.rows.check_hits.Statement.{statement}

@@ -1,4 +1,4 @@
--- `texts::searches::check_each` is safe and ends.
+-- `texts::searches::check_each` is safe and ends: a turn for each row, and one more.
 use borrow.Author.Needs.{needs}
 use Prim.Native.Nat.{_≤_, _-_}
 use Rattle.texts.proofs.searches.check_each.Statement.{statement}
