@@ -89,7 +89,8 @@ fn line_of(i: usize) -> [usize; 5]
 // The calls in the rows `from` to `to` - 1 of the table, one after the other from a state.
 fn check_calls(
     score: Score,
-    case: Case,
+    rows: Rows,
+    pattern: Pattern,
     text: &[u16],
     start: Cursors,
     from: usize,
@@ -97,8 +98,6 @@ fn check_calls(
 ) -> Score
     requires { ⌜ to ≤ 17 ⌝ }
 {
-    let pattern = case.pattern;
-    let rows = case.front;
     let mut cursors = start;
     let mut after = score;
     for i in from..to {
@@ -119,6 +118,8 @@ fn having_served(served: usize) -> Cursors {
 
 // Calls from a fresh state, and calls from one that may serve once more.
 pub fn check_clients(score: Score, case: Case, text: &[u16]) -> Score {
-    let fresh = check_calls(score, case, text, Cursors::new(), 0, 12);
-    check_calls(fresh, case, text, having_served(499), 12, 17)
+    let pattern = case.pattern;
+    let rows = case.front;
+    let fresh = check_calls(score, rows, pattern, text, Cursors::new(), 0, 12);
+    check_calls(fresh, rows, pattern, text, having_served(499), 12, 17)
 }

@@ -136,54 +136,34 @@ fn short_place(list: List, count: usize) -> u64 {
     }
 }
 
-// The rows that the list should have.
-fn rows_of(list: List, case: Case) -> Rows {
-    match list {
-        List::Front => case.front,
-        List::Back => case.back,
-        List::All => case.all,
-    }
-}
-
-// Writes the list's name and how many rows it has.
-fn show_rows(list: List, n: u64) {
-    match list {
-        List::Front => show(b": front ", n),
-        List::Back => show(b" back ", n),
-        List::All => show(b" all ", n),
-    }
-}
-
 // A list with room for one entry more than its rows, which stays, and with room for one less, where it is refused and all stay.
-fn check_list(score: Score, list: List, case: Case, text: &[u16]) -> Score {
-    let pattern = case.pattern;
-    let rows = rows_of(list, case);
+fn check_list(
+    score: Score,
+    name: &[u8],
+    list: List,
+    rows: Rows,
+    pattern: Pattern,
+    text: &[u16],
+) -> Score {
     let wanted = filled(rows, pattern.count);
     let entries = wanted.list;
     let size = wanted.size;
     let long = tried(list, pattern, text, size + 1);
-    show_rows(list, long.number);
+    show(name, long.number);
     let written = check_called(score, rows.count as u64, 0, entries, long);
     if size == 0 {
         return written;
     }
     let short = tried(list, pattern, text, size - 1);
-    check_called(
-        written,
-        100008,
-        short_place(list, rows.count),
-        [9u16; 40],
-        short,
-    )
+    let place = short_place(list, rows.count);
+    check_called(written, 100008, place, [9u16; 40], short)
 }
 
 // The count alone.
-fn check_support(score: Score, case: Case, text: &[u16]) -> Score {
-    let pattern = case.pattern;
-    let rows = case.front;
+fn check_support(score: Score, count: usize, pattern: Pattern, text: &[u16]) -> Score {
     let got = rows_number(matching::support(pattern, text));
     show(b" support ", got);
-    score.number(rows.count as u64, got)
+    score.number(count as u64, got)
 }
 
 // The number of all occurrences, or the refusal's.
@@ -195,19 +175,21 @@ fn tally_number(answer: Tallied) -> u64 {
 }
 
 // The tally.
-fn check_tally(score: Score, case: Case, text: &[u16]) -> Score {
-    let pattern = case.pattern;
-    let rows = case.all;
+fn check_tally(score: Score, count: usize, pattern: Pattern, text: &[u16]) -> Score {
     let got = tally_number(counting::tally(pattern, text));
     show(b" tally ", got);
-    score.number(rows.count as u64, got)
+    score.number(count as u64, got)
 }
 
 // The lists and counts of a text.
 pub fn check_lists(score: Score, case: Case, text: &[u16]) -> Score {
-    let front = check_list(score, List::Front, case, text);
-    let back = check_list(front, List::Back, case, text);
-    let support = check_support(back, case, text);
-    let all = check_list(support, List::All, case, text);
-    check_tally(all, case, text)
+    let pattern = case.pattern;
+    let rows = case.front;
+    let last = case.back;
+    let every = case.all;
+    let front = check_list(score, b": front ", List::Front, rows, pattern, text);
+    let back = check_list(front, b" back ", List::Back, last, pattern, text);
+    let support = check_support(back, rows.count, pattern, text);
+    let all = check_list(support, b" all ", List::All, every, pattern, text);
+    check_tally(all, every.count, pattern, text)
 }

@@ -24,19 +24,17 @@ fn wide(x: u16) -> usize {
     x as usize
 }
 
-// The words from place a to place e, or nothing where these are not places of the text in order.
+// The words from place a to place e, or nothing where the first of these is no place up to the last.
 fn part(text: &[u16], a: usize, e: usize) -> &[u16] {
-    if text.len() < e {
-        return &text[0..0];
-    }
+    let head = first(text, e);
+    let n = head.len();
     if a == 0 {
-        return &text[0..0];
+        return &head[0..0];
     }
-    let from = a - 1;
-    if e < from {
-        return &text[0..0];
+    if n < a {
+        return &head[0..0];
     }
-    &text[from..e]
+    &head[a - 1..n]
 }
 
 // The last place of a row of m places.

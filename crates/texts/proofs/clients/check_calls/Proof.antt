@@ -5,10 +5,10 @@ use Rattle.texts.proofs.clients.check_calls.Statement.{statement}
 use Rattle.texts.proofs.clients.check_calls.Tie as tie
 
 abbrev Inv-loop : tie.InvT-loop
-Inv-loop text from to pattern rows cursors₀ after₀ i₀ cursors after i = from ≤ i
+Inv-loop rows pattern text from to cursors₀ after₀ i₀ cursors after i = from ≤ i
 
 abbrev μ-loop : tie.MeasureT-loop
-μ-loop text from to pattern rows cursors₀ after₀ i₀ cursors after i = to - i
+μ-loop rows pattern text from to cursors₀ after₀ i₀ cursors after i = to - i
 
 loop-holds : tie.Need-loop-holds Inv-loop μ-loop
 loop-holds c = search needs
