@@ -30,13 +30,13 @@ returns c =
     c .refuse .ensures ∙ sym (names-3-open (a .least) (a .most) (open-line (line f) (c .before .if1 .taken)))
 
 sub-names : tie.Need-sub-names
-sub-names c = omega arith
+sub-names c = let k = shut c in omega arith
 
 part-names-start : tie.Need-part-names-start
-part-names-start c = omega arith
+part-names-start c = let k = shut c in omega arith
 
 part-names-end : tie.Need-part-names-end
-part-names-end c = omega arith
+part-names-end c = let k = shut c in omega arith
 
 slot-names-requires : tie.Need-slot-names-requires
 slot-names-requires c κs = search needs
@@ -55,7 +55,7 @@ columns-of-requires : tie.Need-columns-of-requires
 columns-of-requires c κs = search needs
 
 slot-lines-requires : tie.Need-slot-lines-requires
-slot-lines-requires c κs = omega arith
+slot-lines-requires c κs = let k = shut (c .before .before .before .before) in omega arith
 
 enum-known-found : tie.Need-enum-known-found
 enum-known-found c = search needs
@@ -76,6 +76,7 @@ from-slots-requires c κs =
     let l = c .before .before .before in
     let b = l .before .before .before .before .before .before .before .before in
     let e = l .before .before .before .before .before in
+    let k = shut e in
     (omega arith, slots-count (l .before .columns-of .result) (drop (e .before .line-at .result .next) (b .args .s .now)) (c .before .found2 .given .0 .0) (sym (c .before .found2 .given .1) ∙ l .slot-lines .ensures .0))
 
 returns-3 : tie.Need-returns-3

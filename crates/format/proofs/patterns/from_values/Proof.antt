@@ -29,13 +29,13 @@ returns c =
     c .refuse .ensures ∙ sym (values-open (a .i) (a .j) (open-line (line f) (c .before .if1 .taken)))
 
 sub-values : tie.Need-sub-values
-sub-values c = omega arith
+sub-values c = let k = shut c in omega arith
 
 part-values-start : tie.Need-part-values-start
-part-values-start c = omega arith
+part-values-start c = let k = shut c in omega arith
 
 part-values-end : tie.Need-part-values-end
-part-values-end c = omega arith
+part-values-end c = let k = shut c in omega arith
 
 span-values-requires : tie.Need-span-values-requires
 span-values-requires c κs = search needs
@@ -63,7 +63,7 @@ value-requires-2 : tie.Need-value-requires-2
 value-requires-2 c κs = search needs
 
 from-slot-names-requires : tie.Need-from-slot-names-requires
-from-slot-names-requires c κs = omega arith
+from-slot-names-requires c κs = let k = shut (c .before .before .before .before .before .before .before) in omega arith
 
 returns-3 : tie.Need-returns-3
 returns-3 c =

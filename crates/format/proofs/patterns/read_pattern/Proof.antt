@@ -34,13 +34,13 @@ returns-2 c =
     c .refuse2 .ensures ∙ sym (read-small s (f .before .if1 .left) ∙ names-open (open-line (line f) (c .before .if2 .taken)))
 
 sub-names : tie.Need-sub-names
-sub-names c = omega arith
+sub-names c = let k = shut c in omega arith
 
 part-names-start : tie.Need-part-names-start
-part-names-start c = omega arith
+part-names-start c = let k = shut c in omega arith
 
 part-names-end : tie.Need-part-names-end
-part-names-end c = omega arith
+part-names-end c = let k = shut c in omega arith
 
 span-names-requires : tie.Need-span-names-requires
 span-names-requires c κs = search needs
@@ -69,7 +69,7 @@ column-requires-2 : tie.Need-column-requires-2
 column-requires-2 c κs = search needs
 
 from-values-requires : tie.Need-from-values-requires
-from-values-requires c κs = omega arith
+from-values-requires c κs = let k = shut (c .before .before .before .before .before .before .before) in omega arith
 
 returns-4 : tie.Need-returns-4
 returns-4 c =

@@ -38,13 +38,13 @@ returns c =
     (sym (l .inv .1 .1 ∙ scan-open (slotValues (a .c)) (l .n) (open-line (line f) (c .if1 .taken)) (omega arith)), search needs)
 
 sub-slot-values : tie.Need-sub-slot-values Inv-loop μ-loop
-sub-slot-values c = omega arith
+sub-slot-values c = let k = shut c in omega arith
 
 part-slot-values-start : tie.Need-part-slot-values-start Inv-loop μ-loop
-part-slot-values-start c = omega arith
+part-slot-values-start c = let k = shut c in omega arith
 
 part-slot-values-end : tie.Need-part-slot-values-end Inv-loop μ-loop
-part-slot-values-end c = omega arith
+part-slot-values-end c = let k = shut c in omega arith
 
 slot-values-requires : tie.Need-slot-values-requires Inv-loop μ-loop
 slot-values-requires c κs = search needs
@@ -58,10 +58,10 @@ returns-2 c =
     (sym (l .inv .1 .1 ∙ scan-wrong (slotValues (a .c)) (l .n) (shut q) (sym (d .slot-values .ensures) ∙ not-true _ (c .if2 .taken))), search needs)
 
 add-n : tie.Need-add-n Inv-loop μ-loop
-add-n c = omega arith
+add-n c = let k = shut (c .before .before .before) in omega arith
 
 loop-less : tie.Need-loop-less Inv-loop μ-loop
-loop-less c = omega arith
+loop-less c = let k = shut (c .before .before .before) in omega arith
 
 loop-again : tie.Need-loop-again Inv-loop μ-loop
 loop-again c =

@@ -51,13 +51,13 @@ returns-2 c =
     sym (sym (filled-first _) ∙ l .inv .1 .1 ∙ filled-none (l .slots) _ (l .k) (slots-open (a .c) (open-line (line f) (c .if2 .taken))))
 
 sub-slot-of : tie.Need-sub-slot-of Inv-loop μ-loop
-sub-slot-of c = omega arith
+sub-slot-of c = let k = shut c in omega arith
 
 part-slot-of-start : tie.Need-part-slot-of-start Inv-loop μ-loop
-part-slot-of-start c = omega arith
+part-slot-of-start c = let k = shut c in omega arith
 
 part-slot-of-end : tie.Need-part-slot-of-end Inv-loop μ-loop
-part-slot-of-end c = omega arith
+part-slot-of-end c = let k = shut c in omega arith
 
 slot-of-requires : tie.Need-slot-of-requires Inv-loop μ-loop
 slot-of-requires c κs = search needs
@@ -72,7 +72,7 @@ add-k : tie.Need-add-k Inv-loop μ-loop
 add-k c = search needs
 
 loop-less : tie.Need-loop-less Inv-loop μ-loop
-loop-less c = omega arith
+loop-less c = let k = shut (c .before .before) in omega arith
 
 loop-again : tie.Need-loop-again Inv-loop μ-loop
 loop-again c =

@@ -72,13 +72,13 @@ returns-4 c =
     (d .answer, d .content)
 
 sub-rest : tie.Need-sub-rest
-sub-rest c = omega arith
+sub-rest c = let k = named c .line in omega arith
 
 part-rest-start : tie.Need-part-rest-start
-part-rest-start c = omega arith
+part-rest-start c = let k = named c .line in omega arith
 
 part-rest-end : tie.Need-part-rest-end
-part-rest-end c = omega arith
+part-rest-end c = let k = named c .line in omega arith
 
 word-lines-requires : tie.Need-word-lines-requires
 word-lines-requires c κs = search needs

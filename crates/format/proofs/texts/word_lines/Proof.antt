@@ -38,13 +38,13 @@ returns c =
     (sym (l .inv .1 .1 ∙ scan-open isNumber (l .n) (open-line (line f) (c .if1 .taken)) (omega arith)), search needs)
 
 sub-decimal : tie.Need-sub-decimal Inv-loop μ-loop
-sub-decimal c = omega arith
+sub-decimal c = let k = shut c in omega arith
 
 part-decimal-start : tie.Need-part-decimal-start Inv-loop μ-loop
-part-decimal-start c = omega arith
+part-decimal-start c = let k = shut c in omega arith
 
 part-decimal-end : tie.Need-part-decimal-end Inv-loop μ-loop
-part-decimal-end c = omega arith
+part-decimal-end c = let k = shut c in omega arith
 
 decimal-requires : tie.Need-decimal-requires Inv-loop μ-loop
 decimal-requires c κs = search needs
@@ -58,10 +58,10 @@ returns-2 c =
     (sym (l .inv .1 .1 ∙ scan-wrong isNumber (l .n) (shut q) k), search needs)
 
 add-n : tie.Need-add-n Inv-loop μ-loop
-add-n c = omega arith
+add-n c = let k = shut (c .before .before .before) in omega arith
 
 loop-less : tie.Need-loop-less Inv-loop μ-loop
-loop-less c = omega arith
+loop-less c = let k = shut (c .before .before .before) in omega arith
 
 loop-again : tie.Need-loop-again Inv-loop μ-loop
 loop-again c =

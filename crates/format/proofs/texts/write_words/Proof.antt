@@ -39,13 +39,13 @@ line-at-requires : tie.Need-line-at-requires Inv-loop μ-loop
 line-at-requires c κs = search needs
 
 sub-decimal : tie.Need-sub-decimal Inv-loop μ-loop
-sub-decimal c = omega arith
+sub-decimal c = let k = line c in omega arith
 
 part-decimal-start : tie.Need-part-decimal-start Inv-loop μ-loop
-part-decimal-start c = omega arith
+part-decimal-start c = let k = line c in omega arith
 
 part-decimal-end : tie.Need-part-decimal-end Inv-loop μ-loop
-part-decimal-end c = omega arith
+part-decimal-end c = let k = line c in omega arith
 
 decimal-requires : tie.Need-decimal-requires Inv-loop μ-loop
 decimal-requires c κs = search needs
@@ -58,18 +58,22 @@ cast-out c =
 
 mul-out : tie.Need-mul-out Inv-loop μ-loop
 mul-out c =
+    let t = here c in
     omega (arith, c .before .before .before .before .before .before .before .good .1 .0 .1)
 
 slice-write-out : tie.Need-slice-write-out Inv-loop μ-loop
 slice-write-out c =
+    let t = here c in
     omega arith
 
 add-n : tie.Need-add-n Inv-loop μ-loop
 add-n c =
+    let t = here c in
     omega (arith, c .before .before .before .before .before .before .before .good .1 .0 .1)
 
 loop-less : tie.Need-loop-less Inv-loop μ-loop
 loop-less c =
+    let t = here c in
     omega arith
 
 loop-again : tie.Need-loop-again Inv-loop μ-loop
