@@ -1,7 +1,7 @@
 use cursors::Cursors;
+use hits::Tested;
 use matching::Listed;
 use matching::Outcome;
-use matching::Tested;
 use pattern::Pattern;
 use pattern::Refusal;
 use pattern::Verdict;

@@ -19,7 +19,7 @@ use Rattle.matching.specs.Steps.Turning.{flip, Turned, Flipped}
 use Rattle.matching.specs.Laws.Extremes.{earliest-some, earliest-none, latest-some, latest-none, earliest-same, latest-same}
 use Rattle.matching.specs.Laws.Mirror.{length-flip, Opposite, flip-opposite, nearest-back, none-back}
 use Rattle.matching.specs.Laws.Turning.{turned-facing}
-use Rattle.matching.specs.Laws.Hits.{ready, RowAccepted}
+use Rattle.matching.specs.Laws.Ready.{ready, RowAccepted}
 
 -- ---- the marks as a row
 

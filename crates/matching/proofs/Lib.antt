@@ -5,7 +5,6 @@ mod Raising
 mod Settling
 mod Turning
 mod Answering
-mod Testing
 mod Finding
 mod Writing
 mod Reversing

@@ -1,10 +1,10 @@
 -- What the public calls answer: the tests in document 01's order, then what the meanings say.
 use Prim.Native.Nat.{ℕ, _+_, _-_, _*_}
 use mathlib.Core.Path.{_≡_}
-use mathlib.Core.Bool.{Bool, not}
-use mathlib.Core.List.{List, [], _++_}
+use mathlib.Core.Bool.{not}
+use mathlib.Core.List.{List, _++_}
 use mathlib.Core.Option.{Option, none, some}
-use lib.ListN.{length, take, drop, replicate}
+use lib.ListN.{length, replicate}
 use lib.Dec.{ltb, eqb}
 use Rattle.pattern.specs.declared.Pattern.{Pattern}
 use Rattle.pattern.specs.declared.refusal.Refusal.the-variants.{RowLength, ListLength}
@@ -14,12 +14,8 @@ use Rattle.pattern.specs.Tests.{pick, refuse, andThen, inputVerdict}
 use Rattle.matching.specs.declared.search.Answer.{Answer}
 use Rattle.matching.specs.declared.searches.Search.{Search}
 use Rattle.matching.specs.declared.searches.Outcome.the-variants.{Found, Absent, Refused as NotSearched}
-use Rattle.matching.specs.declared.hits.Tested.{Tested}
-use Rattle.matching.specs.declared.hits.Tested.the-variants.{Yes, No, Refused as NotTested}
 use Rattle.matching.specs.declared.rows.Listed.{Listed}
 use Rattle.matching.specs.declared.rows.Listed.the-variants.{Rows, Refused as NotListed}
-use Rattle.matching.specs.Occurrence.{at}
-use Rattle.matching.specs.Occurrences.{occurs}
 use Rattle.matching.specs.Searches.{earliest, latest}
 use Rattle.matching.specs.Lists.{leftmost, rightmost}
 use Rattle.matching.specs.Written.{written}
@@ -28,30 +24,6 @@ use Rattle.matching.specs.Largest.{Largest}
 -- 1 to 6, then 7, of a row or of marks
 unfoldable pub rowVerdict : Pattern → List ℕ → List ℕ → Verdict
 rowVerdict f t row = andThen (inputVerdict f (length t)) (refuse (not (eqb (length row) (f .count))) RowLength Accepted)
-
--- ---- the test, and the excerpt
-
--- where the tests come to the verdict
-abbrev pub testedBy : Verdict → Bool → Tested
-testedBy Accepted occurs = pick occurs Yes No
-testedBy (Refused why) occurs = NotTested why
-
-abbrev pub isOccurrence : Pattern → List ℕ → List ℕ → Tested
-isOccurrence f t row = testedBy (rowVerdict f t row) (occurs f t row)
-
--- one thing for an occurrence, and another for all else
-abbrev pub ifOccurrence : {A : Type 0} → Tested → A → A → A
-ifOccurrence Yes a b = a
-ifOccurrence No a b = b
-ifOccurrence (NotTested why) a b = b
-
--- the words from the row's first place to its last
-unfoldable pub excerptOf : Pattern → List ℕ → List ℕ → List ℕ
-excerptOf f t row = ifOccurrence (isOccurrence f t row) (take (at row (f .count - 1) - (at row 0 - 1)) (drop (at row 0 - 1) t)) []
-
--- how many words stand before them
-unfoldable pub excerptStart : Pattern → List ℕ → List ℕ → ℕ
-excerptStart f t row = ifOccurrence (isOccurrence f t row) (at row 0 - 1) 0
 
 -- ---- the searches
 

@@ -20,4 +20,4 @@ pub mod Lengths
 pub mod Texts
 pub mod Mirror
 pub mod Turning
-pub mod Hits
+pub mod Ready

@@ -2,5 +2,4 @@
 pub mod Bounds
 pub mod Settling
 pub mod Turning
-pub mod Testing
 pub mod Listing

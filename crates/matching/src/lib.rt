@@ -1,6 +1,5 @@
-// Finding occurrences of patterns in texts: the hit test, the searches, the front and back lists. The meanings stand in specs/.
+// Finding occurrences of patterns in texts: the searches, the front and back lists, the count. The meanings stand in specs/.
 mod bounds;
-mod hits;
 mod lists;
 mod mirror;
 mod places;
@@ -8,9 +7,6 @@ mod rows;
 mod search;
 mod searches;
 
-pub use hits::Tested;
-pub use hits::excerpt;
-pub use hits::is_occurrence;
 pub use lists::leftmost;
 pub use lists::rightmost;
 pub use lists::support;
@@ -20,3 +16,4 @@ pub use searches::Outcome;
 pub use searches::Search;
 pub use searches::first_after;
 pub use searches::last_before;
+pub use searches::row_verdict;

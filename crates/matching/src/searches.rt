@@ -25,7 +25,7 @@ pub struct Search {
 }
 
 // The first of the tests 1 to 7 that a pattern, a text and a row or marks fail.
-pub(crate) fn row_verdict(pattern: Pattern, text: &[u16], row: &[u16]) -> Verdict
+pub fn row_verdict(pattern: Pattern, text: &[u16], row: &[u16]) -> Verdict
     ensures { λ r. ⌜ r ≡ rowVerdict pattern (now (text .entry)) (now (row .entry)) ⌝ }
 {
     let verdict = pattern.check_with(text.len());

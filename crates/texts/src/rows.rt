@@ -6,7 +6,7 @@ use crate::cases::row;
 use crate::score::Score;
 use crate::score::refused;
 use crate::score::show;
-use matching::Tested;
+use hits::Tested;
 use pattern::Pattern;
 use std::num::wrapping_add_u64;
 
@@ -60,9 +60,9 @@ fn check_row(
     let places = first(&row, pattern.count);
     let tested = score.number(
         number,
-        tested_number(matching::is_occurrence(pattern, text, places)),
+        tested_number(hits::is_occurrence(pattern, text, places)),
     );
-    tested.list(expected, matching::excerpt(pattern, text, places))
+    tested.list(expected, hits::excerpt(pattern, text, places))
 }
 
 // An occurrence is one, and its excerpt goes from its first place to its last.

@@ -6,7 +6,7 @@ use lib.ListN.{length}
 use Rattle.matching.specs.Lists.{leftmost}
 use Rattle.matching.specs.Steps.Settling.{Ready}
 use Rattle.matching.specs.Steps.Turning.{seen}
-use Rattle.matching.specs.Laws.Hits.{ready}
+use Rattle.matching.specs.Laws.Ready.{ready}
 use Rattle.matching.proofs.Writing.{products-fit}
 use Rattle.matching.proofs.Listing.{room-always, faces-ready, listed-short, filled-short, listed-done, filled-done}
 use borrow.Author.Needs.{needs}

@@ -1,7 +1,7 @@
 -- `matching::support` meets its contract: the count is the length of the front list.
 use mathlib.Core.Path.{sym, _∙_, ap}
 use Rattle.matching.specs.declared.rows.Listed.the-variants.{Rows}
-use Rattle.matching.specs.Laws.Hits.{ready}
+use Rattle.matching.specs.Laws.Ready.{ready}
 use Rattle.matching.proofs.Listing.{best}
 use borrow.Author.Needs.{needs}
 use Rattle.matching.proofs.lists.support.Statement.{statement}

@@ -1,7 +1,7 @@
 -- `matching::last_before` meets its contract: the tests' verdict decides, then the search's answer is the specification's.
 use native.Mathlib.Omega.{arith}
 use mathlib.Core.Path.{sym, _∙_}
-use Rattle.matching.specs.Laws.Hits.{RowAccepted, row-accepted}
+use Rattle.matching.specs.Laws.Ready.{RowAccepted, row-accepted}
 use Rattle.matching.proofs.Answering.{last-shown}
 use borrow.Author.Needs.{needs}
 use Rattle.matching.proofs.searches.last_before.Statement.{statement}

@@ -4,12 +4,12 @@ use Prim.Native.Nat.{ℕ, _≤_, _<_, _-_}
 use borrow.Author.Count.{below-none}
 use borrow.Author.Tests.{not-true, not-false}
 use Rattle.pattern.specs.Patterns.{slotAt}
 use Rattle.matching.specs.Occurrence.{at}
-use Rattle.matching.specs.Steps.Testing.{PlaceFits}
-use Rattle.matching.proofs.Testing.{decides-true, decides-false, words-more}
+use Rattle.hits.specs.Steps.{PlaceFits}
+use Rattle.hits.proofs.Testing.{decides-true, decides-false, words-more}
 use borrow.Author.Needs.{needs}
-use Rattle.matching.proofs.hits.words_fit.Statement.{statement}
-use Rattle.matching.proofs.hits.words_fit.Tie as tie
+use Rattle.hits.proofs.words_fit.Statement.{statement}
+use Rattle.hits.proofs.words_fit.Tie as tie
 
 abbrev Inv-loop : tie.InvT-loop
 Inv-loop text row pattern m j₀ j = (j ≤ m) × ((k : ℕ) → k < j → PlaceFits (slotAt pattern k .words) (slotAt pattern k .count) text (at row k))

@@ -3,12 +3,12 @@ use native.Mathlib.Omega.{arith}
 use Prim.Native.Nat.{ℕ, _≤_, _<_, _-_}
 use borrow.Author.Tests.{not-true, not-false}
 use Rattle.pattern.specs.Patterns.{slotAt}
 use Rattle.matching.specs.Occurrence.{at}
-use Rattle.matching.specs.Steps.Testing.{GapFits}
-use Rattle.matching.proofs.Testing.{decides-true, decides-false, gaps-more}
+use Rattle.hits.specs.Steps.{GapFits}
+use Rattle.hits.proofs.Testing.{decides-true, decides-false, gaps-more}
 use borrow.Author.Needs.{needs}
-use Rattle.matching.proofs.hits.gaps_fit.Statement.{statement}
-use Rattle.matching.proofs.hits.gaps_fit.Tie as tie
+use Rattle.hits.proofs.gaps_fit.Statement.{statement}
+use Rattle.hits.proofs.gaps_fit.Tie as tie
 
 abbrev Inv-loop : tie.InvT-loop
 Inv-loop row pattern m j₀ j = (1 ≤ j) × ((k : ℕ) → k < j → 1 ≤ k → GapFits (at row (k - 1)) (at row k) (slotAt pattern k .low) (slotAt pattern k .high))

@@ -1,46 +1,22 @@
--- What passing the tests leaves to know of a row, and of an occurrence; an excerpt is empty exactly where there is none.
+-- What a row that is an occurrence brings; an excerpt is empty exactly where there is none.
 use Prim.Native.Nat.{ℕ, _-_, _≤_}
 use native.Mathlib.Omega.{arith}
 use mathlib.Core.Path.{_≡_, refl, ap}
 use mathlib.Core.Logic.{_↔_}
-use mathlib.Core.Bool.{Bool, true, false, not}
+use mathlib.Core.Bool.{Bool, true, false}
 use mathlib.Core.List.{List, []}
 use lib.ListN.{length, take, drop, length-take, length-drop}
-use lib.Dec.{eqb}
-use borrow.Author.Tests.{eqb-true, not-false}
 use Rattle.pattern.specs.declared.Pattern.{Pattern}
-use Rattle.pattern.specs.declared.refusal.Refusal.the-variants.{RowLength}
 use Rattle.pattern.specs.declared.refusal.Verdict.{Verdict}
 use Rattle.pattern.specs.declared.refusal.Verdict.the-variants.{Accepted, Refused}
-use Rattle.pattern.specs.Tests.{inputVerdict, refuse}
-use Rattle.pattern.specs.Laws.Accepting.{input-accepted, then-accepted, refuse-accepted}
-use Rattle.matching.specs.declared.hits.Tested.{Tested}
-use Rattle.matching.specs.declared.hits.Tested.the-variants.{Yes, No, Refused as NotTested}
 use Rattle.matching.specs.Occurrence.{Occurs, at}
 use Rattle.matching.specs.Occurrences.{occurs}
-use Rattle.matching.specs.Answers.{rowVerdict, testedBy, isOccurrence, ifOccurrence, excerptOf}
-use Rattle.matching.specs.Steps.Settling.{Ready}
+use Rattle.matching.specs.Answers.{rowVerdict}
+use Rattle.matching.specs.Laws.Ready.{RowAccepted, row-accepted}
 use Rattle.matching.specs.Laws.Tests.{occurs-iff}
-
--- ---- what the tests leave
-
-pub ready : (f : Pattern) (t : List ℕ) → inputVerdict f (length t) ≡ Accepted → Ready f t
-ready f t e =
-    let a = input-accepted f (length t) .0 e in
-    record { some = a .pattern .some; few = a .pattern .few; least = a .pattern .least; short = a .short }
-
-pub record RowAccepted (f : Pattern) (t row : List ℕ) : Type 0 where
-  pub ready : Ready f t
-  pub size : length row ≡ f .count
-
-pub row-accepted : {f : Pattern} {t row : List ℕ} → rowVerdict f t row ≡ Accepted → RowAccepted f t row
-unfolding rowVerdict
-row-accepted {f} {t} {row} e =
-    let b = then-accepted (inputVerdict f (length t)) (refuse (not (eqb (length row) (f .count))) RowLength Accepted) e in
-    record {
-      ready = ready f t (b .0);
-      size = eqb-true (length row) (f .count) (not-false (eqb (length row) (f .count)) (refuse-accepted (not (eqb (length row) (f .count))) RowLength Accepted (b .1) .0));
-    }
+use Rattle.hits.specs.declared.Tested.{Tested}
+use Rattle.hits.specs.declared.Tested.the-variants.{Yes, No, Refused as NotTested}
+use Rattle.hits.specs.Answers.{testedBy, isOccurrence, ifOccurrence, excerptOf}
 
 -- ---- what a row that is an occurrence brings
 

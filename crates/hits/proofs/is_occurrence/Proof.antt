@@ -1,12 +1,12 @@
--- `matching::is_occurrence` meets its contract: the conditions of Definition 3 are decided one after the other.
+-- `hits::is_occurrence` meets its contract: the conditions of Definition 3 are decided one after the other.
 use native.Mathlib.Omega.{arith}
 use mathlib.Core.Path.{sym, _∙_}
 use borrow.Author.Tests.{not-true, not-false}
-use Rattle.matching.specs.Laws.Hits.{RowAccepted, row-accepted}
-use Rattle.matching.proofs.Testing.{no-words, no-gaps, no-span, all-fit}
+use Rattle.matching.specs.Laws.Ready.{RowAccepted, row-accepted}
+use Rattle.hits.proofs.Testing.{no-words, no-gaps, no-span, all-fit}
 use borrow.Author.Needs.{needs}
-use Rattle.matching.proofs.hits.is_occurrence.Statement.{statement}
-use Rattle.matching.proofs.hits.is_occurrence.Tie as tie
+use Rattle.hits.proofs.is_occurrence.Statement.{statement}
+use Rattle.hits.proofs.is_occurrence.Tie as tie
 
 accepted : (c : tie.After-enum-told) → RowAccepted (c .before .before .before .before .before .args .pattern) (c .before .before .before .before .before .args .text .now) (c .before .before .before .before .before .args .row .now)
 accepted c = row-accepted (sym (c .before .before .row-verdict .ensures) ∙ c .enum-told .given .1)

@@ -1,19 +1,26 @@
-use crate::places::wide;
-use crate::searches::row_verdict;
+// Whether a row is an occurrence (document 01: a hit), and the part of the text that it spans. The meaning stands in matching/specs.
+use matching::row_verdict;
 use pattern::Pattern;
 use pattern::Refusal;
 use pattern::Verdict;
 ghost use mathlib.Core.Path.{_≡_};
 ghost use Prim.Native.Nat.{_+_, _*_, _≤_, _<_};
 ghost use lib.ListN.{length};
-ghost use Rattle.matching.specs.Answers.{isOccurrence, excerptOf, excerptStart};
-ghost use Rattle.matching.specs.Steps.Testing.{Decides, PlaceFits, GapFits, SpanFits, WordsFit, GapsFit};
+ghost use Rattle.hits.specs.Answers.{isOccurrence, excerptOf, excerptStart};
+ghost use Rattle.hits.specs.Steps.{Decides, PlaceFits, GapFits, SpanFits, WordsFit, GapsFit};
 
 // Whether a row is an occurrence, or why it is not tested.
 pub enum Tested {
     Yes,
     No,
     Refused(Refusal),
+}
+
+// A place or a gap as a number to count with.
+fn wide(x: u16) -> usize
+    ensures { λ r. ⌜ (r ≡ x) × (r < 65536) ⌝ }
+{
+    x as usize
 }
 
 // Whether the place is in the text, and its word among the first `count`.

@@ -1,18 +1,18 @@
 -- The test of a row, condition by condition. Assumes nothing.
 use Prim.Native.Nat.{ℕ, _+_, _-_, _≤_, _<_}
 use native.Mathlib.Omega.{arith}
-use mathlib.Core.Bool.{Bool, true, false, true≢false, false≢true}
+use mathlib.Core.Bool.{true, false, true≢false, false≢true}
 use mathlib.Core.List.{List}
-use mathlib.Core.Path.{_≡_, refl}
+use mathlib.Core.Path.{_≡_}
 use lib.ListN.{length}
 use borrow.Author.Count.{below-more}
 use Rattle.pattern.specs.declared.Pattern.{Pattern}
 use Rattle.pattern.specs.Patterns.{takes, slotAt}
 use Rattle.pattern.specs.Laws.Accepting.{is-false}
 use Rattle.matching.specs.Occurrence.{at}
 use Rattle.matching.specs.Occurrences.{occurs}
-use Rattle.matching.specs.Steps.Testing.{Decides, PlaceFits, GapFits, SpanFits, WordsFit, GapsFit}
+use Rattle.hits.specs.Steps.{Decides, PlaceFits, GapFits, SpanFits, WordsFit, GapsFit}
 use Rattle.matching.specs.Laws.Tests.{occurs-iff}
 
 pub decides-true : {P : Type 0} → P → Decides true P
 decides-true p = record { yes = λ _. p; no = λ e. absurd (true≢false e) }

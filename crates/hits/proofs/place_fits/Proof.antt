@@ -2,10 +2,10 @@
 use native.Mathlib.Omega.{arith}
 use mathlib.Core.Path.{sym, _∙_}
 use mathlib.Core.Bool.{true≢false}
-use Rattle.matching.proofs.Testing.{decides-false}
+use Rattle.hits.proofs.Testing.{decides-false}
 use borrow.Author.Needs.{needs}
-use Rattle.matching.proofs.hits.place_fits.Statement.{statement}
-use Rattle.matching.proofs.hits.place_fits.Tie as tie
+use Rattle.hits.proofs.place_fits.Statement.{statement}
+use Rattle.hits.proofs.place_fits.Tie as tie
 
 returns : tie.Need-returns
 returns c = decides-false (λ p. omega (arith, c .if1 .taken, p .low))

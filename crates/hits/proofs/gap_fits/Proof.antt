@@ -1,9 +1,9 @@
 -- `gap_fits` meets its contract: each branch decides one limit.
 use native.Mathlib.Omega.{arith}
-use Rattle.matching.proofs.Testing.{decides-true, decides-false}
+use Rattle.hits.proofs.Testing.{decides-true, decides-false}
 use borrow.Author.Needs.{needs}
-use Rattle.matching.proofs.hits.gap_fits.Statement.{statement}
-use Rattle.matching.proofs.hits.gap_fits.Tie as tie
+use Rattle.hits.proofs.gap_fits.Statement.{statement}
+use Rattle.hits.proofs.gap_fits.Tie as tie
 
 add-if1 : tie.Need-add-if1
 add-if1 c = search needs

@@ -1,11 +1,11 @@
--- `matching::excerpt` meets its contract: an occurrence's first and last place are places of the text, in order.
+-- `hits::excerpt` meets its contract: an occurrence's first and last place are places of the text, in order.
 use native.Mathlib.Omega.{arith}
 use mathlib.Core.Path.{refl, sym, _∙_}
-use Rattle.matching.specs.Answers.{excerptOf, excerptStart}
+use Rattle.hits.specs.Answers.{excerptOf, excerptStart}
 use borrow.Author.Needs.{needs}
-use Rattle.matching.specs.Laws.Hits.{Hit, hit, hit-first, hit-order, hit-last}
-use Rattle.matching.proofs.hits.excerpt.Statement.{statement}
-use Rattle.matching.proofs.hits.excerpt.Tie as tie
+use Rattle.hits.specs.Laws.Excerpts.{Hit, hit, hit-first, hit-order, hit-last}
+use Rattle.hits.proofs.excerpt.Statement.{statement}
+use Rattle.hits.proofs.excerpt.Tie as tie
 
 found : (c : tie.After-enum-told) → Hit (c .before .before .before .before .before .args .pattern) (c .before .before .before .before .before .args .text .now) (c .before .before .before .before .before .args .row .now)
 found c = hit (c .before .before .before .before .before .args .pattern) (c .before .before .before .before .before .args .text .now) (c .before .before .before .before .before .args .row .now) (sym (c .before .before .is-occurrence .ensures) ∙ c .enum-told .given .1)
