@@ -1,17 +1,13 @@
 -- Lines value by value, and entry by entry. Assumes nothing.
 use Prim.Native.Nat.{ℕ, _+_}
 use native.Mathlib.Numerals.{add-one}
-use mathlib.Core.Path.{_≡_, refl, sym, ap, _∙_}
+use mathlib.Core.Path.{_≡_, refl, sym, ap}
 use mathlib.Core.List.{List, [], _∷_, _++_, append-assoc}
 use Rattle.format.specs.Shown.{digitsIn, closed, joined}
 use Rattle.report.specs.Lines.{values, entryLine, entryLines}
 use Rattle.report.specs.Writing.{Writes}
+use Rattle.report.specs.Laws.Lines.{closed-append}
 use Rattle.report.specs.Laws.Writing.{writes-none, writes-same, writes-then}
-
-closed-append : (ls ms : List (List ℕ)) → closed (ls ++ ms) ≡ closed ls ++ closed ms
-unfolding closed
-closed-append [] ms = refl
-closed-append (l ∷ ls) ms = ap (λ (s : List ℕ). l ++ 10 ∷ s) (closed-append ls ms) ∙ sym (append-assoc l (10 ∷ closed ls) (closed ms))
 
 -- ---- lines
 

@@ -1,3 +1,5 @@
 -- What follows from the definitions.
 pub mod Writing
 pub mod Files
+pub mod Lines
+pub mod Size

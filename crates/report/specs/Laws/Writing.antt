@@ -15,7 +15,7 @@ pub length-overlaid : (bytes out : List ℕ) → length (overlaid bytes out) ≡
 length-overlaid bytes out = simp (length-append, length-take, length-drop) (omega arith)
 
 -- all of them fit
-overlaid-short : (bytes out : List ℕ) → length bytes ≤ length out → overlaid bytes out ≡ bytes ++ drop (length bytes) out
+pub overlaid-short : (bytes out : List ℕ) → length bytes ≤ length out → overlaid bytes out ≡ bytes ++ drop (length bytes) out
 overlaid-short bytes out h = rw (take-all (length out) bytes h)
 
 -- they fill the list

@@ -1,0 +1,176 @@
+-- A report has at most 336,059 bytes: at most 59 before the table, and at most 21 for each of its 16,000 entries. Assumes nothing.
+use Prim.Native.Nat.{ℕ, zero, suc, _+_, _-_, _*_, _/_, _%_, _≤_, _<_, min}
+use native.Mathlib.Omega.{arith}
+use native.Mathlib.Nat.{div-le-self, le-mul-of-pos-right, mod-lt}
+use mathlib.Core.Path.{_≡_, refl, ap, _∙_}
+use mathlib.Core.Bool.{Bool, true, false}
+use mathlib.Core.List.{List, [], _∷_, _++_}
+use lib.Dec.{ltb}
+use lib.ListN.{length, getD, take, drop, length-append, List·getD-append}
+use lib.Seq.{getD-append-add, take-at}
+use borrow.Author.Tests.{lt-ltb, ltb-true, ltb-false}
+use Rattle.pattern.specs.Laws.Accepting.{input-accepted}
+use Rattle.pattern.specs.Refusals.{numberOf, placeOf}
+use Rattle.pattern.specs.Tests.{pick, inputVerdict}
+use Rattle.pattern.specs.declared.Pattern.{Pattern}
+use Rattle.pattern.specs.declared.refusal.Refusal.{Refusal}
+use Rattle.pattern.specs.declared.refusal.Refusal.the-variants.{FileLength, ListLength}
+use Rattle.pattern.specs.declared.refusal.Verdict.{Verdict}
+use Rattle.pattern.specs.declared.refusal.Verdict.the-variants.{Accepted, Refused}
+use Rattle.matching.specs.Answers.{listed}
+use Rattle.matching.specs.Collections.{Every, none, more}
+use Rattle.matching.specs.Laws.Largest.{largest}
+use Rattle.matching.specs.Lists.{leftmost, rightmost}
+use Rattle.matching.specs.Occurrence.{Occurs}
+use Rattle.matching.specs.Written.{flat}
+use Rattle.counting.specs.Answers.{tallied}
+use Rattle.counting.specs.declared.total.Tallied.{Tallied}
+use Rattle.counting.specs.declared.total.Tallied.the-variants.{Total, Refused as NotTallied}
+use Rattle.format.specs.Input.{inputRead}
+use Rattle.format.specs.Shown.{closed, digitsIn, joined}
+use Rattle.format.specs.Texts.{textContents}
+use Rattle.format.specs.declared.texts.TextRead.{TextRead}
+use Rattle.format.specs.declared.texts.TextRead.the-variants.{Words, Refused as NotRead}
+use Rattle.report.specs.Files.{patternFile, textFile}
+use Rattle.report.specs.Laws.Lines.{closed-append}
+use Rattle.report.specs.Laws.Writing.{overlaid-short}
+use Rattle.report.specs.Lines.{countNames, entryLine, entryLines, listsReport, refusalNames, refusalReport, tableNames, values}
+use Rattle.report.specs.Report.{afterLists, afterTally, afterText, filesReport, overlaid, reported, searchReport, shownWords}
+
+-- ---- digits
+
+-- a bound on a number of g + 1 digits
+abbrev ten : ℕ → ℕ
+ten zero = 10
+ten (suc g) = 10 * ten g
+
+few-digits : (f g n : ℕ) → n < ten g → length (digitsIn f n) ≤ g + 1
+unfolding digitsIn
+few-digits zero g n h = omega arith
+few-digits (suc f) zero n h = rw (lt-ltb n 10 h) (omega arith)
+few-digits (suc f) (suc g) n h = go (ltb n 10) (few-digits f g (n / 10) (omega arith))
+  where
+    go : (x : Bool) → length (digitsIn f (n / 10)) ≤ g + 1 → length (pick x ((48 + n) ∷ []) (digitsIn f (n / 10) ++ ((48 + n % 10) ∷ []))) ≤ suc g + 1
+    go true k = omega arith
+    go false k = simp length-append (omega arith)
+
+most-digits : (f n : ℕ) → length (digitsIn f n) ≤ f + 1
+unfolding digitsIn
+most-digits zero n = omega arith
+most-digits (suc f) n = go (ltb n 10) (most-digits f (n / 10))
+  where
+    go : (x : Bool) → length (digitsIn f (n / 10)) ≤ f + 1 → length (pick x ((48 + n) ∷ []) (digitsIn f (n / 10) ++ ((48 + n % 10) ∷ []))) ≤ suc f + 1
+    go true k = omega arith
+    go false k = simp length-append (omega arith)
+
+-- ---- lines
+
+pair-length : (a b : ℕ) → length (values (a ∷ b ∷ [])) ≡ length (digitsIn 19 a) + length (digitsIn 19 b) + 1
+unfolding joined
+pair-length a b = simp length-append (omega arith)
+
+entry-length : (a b c d : ℕ) → length (closed (values (a ∷ b ∷ c ∷ d ∷ []) ∷ [])) ≡ length (digitsIn 19 a) + length (digitsIn 19 b) + length (digitsIn 19 c) + length (digitsIn 19 d) + 4
+unfolding joined closed
+entry-length a b c d = simp length-append (omega arith)
+
+two-lines : (l v : List ℕ) → length (closed (l ∷ v ∷ [])) ≡ length l + length v + 2
+unfolding closed
+two-lines l v = simp length-append (omega arith)
+
+head-length : (l v n : List ℕ) (ls : List (List ℕ)) → length (closed (l ∷ v ∷ n ∷ ls)) ≡ length l + length v + length n + length (closed ls) + 3
+unfolding closed
+head-length l v n ls = simp length-append (omega arith)
+
+pub refusal-size : (why : Refusal) → length (refusalReport why) ≤ 336059
+refusal-size why =
+    omega (arith, two-lines refusalNames (values (numberOf why ∷ placeOf why ∷ [])), pair-length (numberOf why) (placeOf why), most-digits 19 (numberOf why), most-digits 19 (placeOf why))
+
+-- ---- the table
+
+entries-size : (m : ℕ) (front back : List ℕ) (n : ℕ) → ((e : ℕ) → e < n → length (closed (entryLine m front back e ∷ [])) ≤ 21) → length (closed (entryLines m front back n)) ≤ 21 * n
+unfolding entryLines closed
+entries-size m front back zero h = omega arith
+entries-size m front back (suc n) h =
+    let e : length (closed (entryLines m front back n ++ (entryLine m front back n ∷ []))) ≡ length (closed (entryLines m front back n)) + length (closed (entryLine m front back n ∷ [])) =
+    ap length (closed-append (entryLines m front back n) (entryLine m front back n ∷ [])) ∙ length-append (closed (entryLines m front back n)) (closed (entryLine m front back n ∷ [])) in
+    omega (arith, e, h n (omega arith), entries-size m front back n (λ k l. h k (omega arith)))
+
+-- the places of occurrences are those of a text
+places-small : (f : Pattern) (t : List ℕ) {R : List (List ℕ)} → length t ≤ 20000 → Every (Occurs f t) R → (e : ℕ) → getD (flat R) e 0 ≤ 20000
+unfolding flat
+places-small f t short none e = omega arith
+places-small f t short (more {x = r} {xs = R} o h) e = go (ltb e (length r)) refl (places-small f t short h (e - length r))
+  where
+    go : (x : Bool) → ltb e (length r) ≡ x → getD (flat R) (e - length r) 0 ≤ 20000 → getD (r ++ flat R) e 0 ≤ 20000
+    go true b k =
+        let l : e < length r = ltb-true e (length r) b in
+        let i : e < f .count = omega (arith, o .size) in
+        omega (arith, List·getD-append r (flat R) 0 e l, o .inside e i)
+    go false b k =
+        let s : length r + (e - length r) ≡ e = omega (arith, ltb-false e (length r) b) in
+        omega (arith, ap (λ (i : ℕ). getD (r ++ flat R) i 0) s, getD-append-add r (flat R) (e - length r) 0)
+
+entry-size : (m : ℕ) (front back : List ℕ) (e : ℕ) → 1 ≤ m → m ≤ 16 → e < 16000 → getD front e 0 ≤ 20000 → getD back e 0 ≤ 20000 → length (closed (entryLine m front back e ∷ [])) ≤ 21
+entry-size m front back e some few h p q =
+    omega (
+      arith,
+      entry-length (e / m + 1) (e % m + 1) (getD front e 0) (getD back e 0),
+      few-digits 19 4 (e / m + 1) (omega (arith, div-le-self e m)),
+      few-digits 19 1 (e % m + 1) (omega (arith, mod-lt e some)),
+      few-digits 19 4 (getD front e 0) (omega arith),
+      few-digits 19 4 (getD back e 0) (omega arith),
+    )
+
+lists-size : (f : Pattern) (t : List ℕ) (tally : ℕ) → inputVerdict f (length t) ≡ Accepted → length (leftmost f t) * f .count ≤ 16000 → length (listsReport (f .count) (leftmost f t) (rightmost f t) tally) ≤ 336059
+lists-size f t tally ok room =
+    let a = input-accepted f (length t) .0 ok in
+    let b = largest a in
+    let m = f .count in
+    let F = leftmost f t in
+    let n = length F * m in
+    let count : length F ≤ n = le-mul-of-pos-right (length F) (a .pattern .some) in
+    let fit : (e : ℕ) → e < n → length (closed (entryLine m (flat F) (flat (rightmost f t)) e ∷ [])) ≤ 21 = λ e h.
+    entry-size m (flat F) (flat (rightmost f t)) e (a .pattern .some) (a .pattern .few) (omega arith) (places-small f t (a .short) (b .front .occur) e) (places-small f t (a .short) (b .back .occur) e) in
+    omega (
+      arith,
+      head-length countNames (values (length F ∷ tally ∷ [])) tableNames (entryLines m (flat F) (flat (rightmost f t)) n),
+      pair-length (length F) tally,
+      few-digits 19 4 (length F) (omega arith),
+      most-digits 19 tally,
+      entries-size m (flat F) (flat (rightmost f t)) n fit,
+    )
+
+-- ---- the whole report
+
+tally-size : (a : Tallied) (f : Pattern) (t : List ℕ) → inputVerdict f (length t) ≡ Accepted → length (leftmost f t) * f .count ≤ 16000 → length (afterTally a f t) ≤ 336059
+tally-size (Total n) f t ok room = lists-size f t n ok room
+tally-size (NotTallied why) f t ok room = refusal-size why
+
+search-size : (f : Pattern) (t : List ℕ) → length (searchReport f t) ≤ 336059
+unfolding searchReport
+search-size f t = go (inputVerdict f (length t)) refl (ltb 16000 (length (leftmost f t) * f .count)) refl
+  where
+    go : (v : Verdict) → inputVerdict f (length t) ≡ v → (x : Bool) → ltb 16000 (length (leftmost f t) * f .count) ≡ x
+        → length (afterLists (listed (inputVerdict f (length t)) (f .count) (leftmost f t) 16000) f t) ≤ 336059
+    go (Refused why) e x b = rw e (refusal-size why)
+    go Accepted e true b = rw (e, b) (refusal-size (ListLength (length (leftmost f t))))
+    go Accepted e false b = rw (e, b) (tally-size (tallied f t) f t e (ltb-false 16000 (length (leftmost f t) * f .count) b))
+
+text-size : (r : TextRead) (f : Pattern) (t : List ℕ) → length (afterText r f t) ≤ 336059
+text-size (Words n) f t = search-size f t
+text-size (NotRead why) f t = refusal-size why
+
+pub report-size : (input : List ℕ) → length (reported input) ≤ 336059
+unfolding reported filesReport
+report-size input = go (ltb 60000 (length input))
+  where
+    go : (x : Bool) → length (pick x (refusalReport FileLength) (filesReport (patternFile input) (textFile input))) ≤ 336059
+    go true = refusal-size FileLength
+    go false = text-size (inputRead (patternFile input) (textFile input) 20000 .text) (inputRead (patternFile input) (textFile input) 20000 .pattern) (shownWords (textContents (textFile input)))
+
+-- a list of so many bytes holds the whole report
+pub report-whole : (input out : List ℕ) {after : List ℕ} {end : ℕ} → 336059 ≤ length out
+    → (end ≡ min (length (reported input)) (length out)) × (after ≡ overlaid (reported input) out) → take end after ≡ reported input
+report-whole input out {after} {end} room w =
+    let fits : length (reported input) ≤ length out = omega (arith, report-size input) in
+    ap (take end) (w .1 ∙ overlaid-short (reported input) out fits) ∙ take-at (reported input) (drop (length (reported input)) out) end (omega (arith, w .0))
