@@ -28,14 +28,14 @@ use Rattle.counting.specs.declared.total.Tallied.{Tallied}
 use Rattle.counting.specs.declared.total.Tallied.the-variants.{Total, Refused as NotTallied}
 use Rattle.format.specs.Input.{inputRead}
 use Rattle.format.specs.Shown.{closed, digitsIn, joined}
-use Rattle.format.specs.Texts.{textContents}
+use Rattle.format.specs.Texts.{shownWords, textContents}
 use Rattle.format.specs.declared.texts.TextRead.{TextRead}
 use Rattle.format.specs.declared.texts.TextRead.the-variants.{Words, Refused as NotRead}
 use Rattle.report.specs.Files.{patternFile, textFile}
 use Rattle.report.specs.Laws.Lines.{closed-append}
 use Rattle.report.specs.Laws.Writing.{overlaid-short}
 use Rattle.report.specs.Lines.{countNames, entryLine, entryLines, listsReport, refusalNames, refusalReport, tableNames, values}
-use Rattle.report.specs.Report.{afterLists, afterTally, afterText, filesReport, overlaid, reported, searchReport, shownWords}
+use Rattle.report.specs.Report.{afterLists, afterTally, afterText, filesReport, overlaid, reported, searchReport}
 
 -- ---- digits
 
