@@ -2,4 +2,5 @@
 pub mod Writing
 pub mod Files
 pub mod Lines
+pub mod Digits
 pub mod Size

@@ -25,31 +25,32 @@ use Rattle.report.specs.Lines.{refusalReport, listsReport}
 
 -- ---- a pattern and a text
 
--- where the tally is so
+-- by what the tally answers
 abbrev pub afterTally : Tallied → Pattern → List ℕ → List ℕ
 afterTally (Total n) f t = listsReport (f .count) (leftmost f t) (rightmost f t) n
 afterTally (NotTallied why) f t = refusalReport why
 
--- where the front list answers so
+-- by what the front list answers: the back list has as many rows
 abbrev pub afterLists : Listed → Pattern → List ℕ → List ℕ
 afterLists (Rows n) f t = afterTally (tallied f t) f t
 afterLists (NotListed why) f t = refusalReport why
 
--- each list holds 16,000 places
+-- a pattern in a text, with two lists of 16,000 places
 unfoldable pub searchReport : Pattern → List ℕ → List ℕ
 searchReport f t = afterLists (listed (inputVerdict f (length t)) (f .count) (leftmost f t) 16000) f t
 
 -- ---- an input
 
--- where the text is read so
+-- by what the reader answers
 abbrev pub afterText : TextRead → Pattern → List ℕ → List ℕ
 afterText (Words n) f t = searchReport f t
 afterText (NotRead why) f t = refusalReport why
 
--- the two files, with room for 20,000 words
+-- a pattern file and a text file, with room for 20,000 words
 unfoldable pub filesReport : List ℕ → List ℕ → List ℕ
 filesReport p t = afterText (inputRead p t 20000 .text) (inputRead p t 20000 .pattern) (shownWords (textContents t))
 
+-- an input of at most 60,000 bytes
 unfoldable pub reported : List ℕ → List ℕ
 reported input = pick (ltb 60000 (length input)) (refusalReport FileLength) (filesReport (patternFile input) (textFile input))
 

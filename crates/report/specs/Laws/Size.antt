@@ -8,7 +8,7 @@ use mathlib.Core.List.{List, [], _∷_, _++_}
 use lib.Dec.{ltb}
 use lib.ListN.{length, getD, take, drop, length-append, List·getD-append}
 use lib.Seq.{getD-append-add, take-at}
-use borrow.Author.Tests.{lt-ltb, ltb-true, ltb-false}
+use borrow.Author.Tests.{ltb-true, ltb-false}
 use Rattle.pattern.specs.Laws.Accepting.{input-accepted}
 use Rattle.pattern.specs.Refusals.{numberOf, placeOf}
 use Rattle.pattern.specs.Tests.{pick, inputVerdict}
@@ -32,36 +32,11 @@ use Rattle.format.specs.Texts.{shownWords, textContents}
 use Rattle.format.specs.declared.texts.TextRead.{TextRead}
 use Rattle.format.specs.declared.texts.TextRead.the-variants.{Words, Refused as NotRead}
 use Rattle.report.specs.Files.{patternFile, textFile}
+use Rattle.report.specs.Laws.Digits.{few-digits, most-digits}
 use Rattle.report.specs.Laws.Lines.{closed-append}
 use Rattle.report.specs.Laws.Writing.{overlaid-short}
 use Rattle.report.specs.Lines.{countNames, entryLine, entryLines, listsReport, refusalNames, refusalReport, tableNames, values}
 use Rattle.report.specs.Report.{afterLists, afterTally, afterText, filesReport, overlaid, reported, searchReport}
-
--- ---- digits
-
--- a bound on a number of g + 1 digits
-abbrev ten : ℕ → ℕ
-ten zero = 10
-ten (suc g) = 10 * ten g
-
-few-digits : (f g n : ℕ) → n < ten g → length (digitsIn f n) ≤ g + 1
-unfolding digitsIn
-few-digits zero g n h = omega arith
-few-digits (suc f) zero n h = rw (lt-ltb n 10 h) (omega arith)
-few-digits (suc f) (suc g) n h = go (ltb n 10) (few-digits f g (n / 10) (omega arith))
-  where
-    go : (x : Bool) → length (digitsIn f (n / 10)) ≤ g + 1 → length (pick x ((48 + n) ∷ []) (digitsIn f (n / 10) ++ ((48 + n % 10) ∷ []))) ≤ suc g + 1
-    go true k = omega arith
-    go false k = simp length-append (omega arith)
-
-most-digits : (f n : ℕ) → length (digitsIn f n) ≤ f + 1
-unfolding digitsIn
-most-digits zero n = omega arith
-most-digits (suc f) n = go (ltb n 10) (most-digits f (n / 10))
-  where
-    go : (x : Bool) → length (digitsIn f (n / 10)) ≤ f + 1 → length (pick x ((48 + n) ∷ []) (digitsIn f (n / 10) ++ ((48 + n % 10) ∷ []))) ≤ suc f + 1
-    go true k = omega arith
-    go false k = simp length-append (omega arith)
 
 -- ---- lines
 

@@ -4,7 +4,7 @@ use native.Mathlib.Omega.{arith}
 use mathlib.Core.Path.{sym, _∙_}
 use borrow.Author.Needs.{needs}
 use Rattle.report.specs.Laws.Writing.{writes-same, writes-then}
-use Rattle.report.proofs.Digits.{one-digit, last-digit}
+use Rattle.report.specs.Laws.Digits.{one-digit, last-digit}
 use borrow.Fn.Kinds.{In}
 use borrow.Fn.PlainCycle.{Measures, is, falls, and}
 use Rattle.report.proofs.bytes.put_number.Reads as put-number

@@ -1,15 +1,17 @@
--- The digits of a number, the last one apart. Assumes nothing.
+-- The digits of a number: the last one apart, and how many there are. Assumes nothing.
 use Prim.Native.Nat.{ℕ, zero, suc, _+_, _*_, _/_, _%_, _≤_, _<_}
 use native.Mathlib.Omega.{arith}
 use mathlib.Core.Path.{_≡_, ap}
+use mathlib.Core.Bool.{Bool, true, false}
 use mathlib.Core.List.{List, [], _∷_, _++_}
 use lib.Dec.{ltb}
+use lib.ListN.{length, length-append}
 use borrow.Author.Tests.{le-ltb, lt-ltb}
 use Rattle.pattern.specs.Tests.{pick}
 use Rattle.format.specs.Shown.{digitsIn}
 
 -- a bound on a number of f + 1 digits
-abbrev ten : ℕ → ℕ
+abbrev pub ten : ℕ → ℕ
 ten zero = 10
 ten (suc f) = 10 * ten f
 
@@ -26,3 +28,25 @@ one-digit n h = rw (lt-ltb n 10 h)
 pub last-digit : (n : ℕ) → 10 ≤ n → n < 18446744073709551616 → digitsIn 19 n ≡ digitsIn 19 (n / 10) ++ ((48 + n % 10) ∷ [])
 unfolding digitsIn
 last-digit n h s = rw (le-ltb n 10 h) (ap (λ (l : List ℕ). l ++ ((48 + n % 10) ∷ [])) (digits-room 18 (n / 10) (omega arith)))
+
+-- ---- how many
+
+-- one more than without the last
+digits-more : (f g n : ℕ) → length (digitsIn f (n / 10)) ≤ g → length (digitsIn (suc f) n) ≤ g + 1
+unfolding digitsIn
+digits-more f g n h = go (ltb n 10)
+  where
+    go : (x : Bool) → length (pick x ((48 + n) ∷ []) (digitsIn f (n / 10) ++ ((48 + n % 10) ∷ []))) ≤ g + 1
+    go true = omega arith
+    go false = simp length-append (omega arith)
+
+pub few-digits : (f g n : ℕ) → n < ten g → length (digitsIn f n) ≤ g + 1
+unfolding digitsIn
+few-digits zero g n h = omega arith
+few-digits (suc f) zero n h = rw (lt-ltb n 10 h) (omega arith)
+few-digits (suc f) (suc g) n h = omega (arith, digits-more f (g + 1) n (few-digits f g (n / 10) (omega arith)))
+
+pub most-digits : (f n : ℕ) → length (digitsIn f n) ≤ f + 1
+unfolding digitsIn
+most-digits zero n = omega arith
+most-digits (suc f) n = omega (arith, digits-more f (f + 1) n (most-digits f (n / 10)))
