@@ -1,0 +1,29 @@
+//! The brute force: what every call must answer, worked out without the library.
+
+mod bits;
+mod calls;
+mod cursors;
+mod enumerated;
+mod largest;
+mod limits;
+mod occurrences;
+mod refusal;
+mod report;
+mod rows;
+#[cfg(test)]
+mod self_tests;
+mod sheets;
+
+mod ways;
+mod windowed;
+
+pub use calls::{check, Brute};
+pub use cursors::rewind;
+pub use enumerated::Enumerated;
+pub use largest::{largest_sets, largest_size, overlap};
+pub use limits::{pattern_of, with_slot};
+pub use occurrences::is_occurrence;
+pub use report::{count, report};
+pub use rows::{sorted_by_slot, Row, Searcher};
+pub use sheets::{made_from_sheet, words_from_sheet};
+pub use windowed::Windowed;

@@ -1,0 +1,167 @@
+//! The brute force against the scope's examples, and its methods against each other.
+
+use super::occurrences::occurrences;
+use super::*;
+use crate::cases::files::{plain_pattern_file, text_file};
+use crate::cases::inputs::sevens;
+use crate::cases::random::{any_marks, any_pattern, any_text, Kind};
+use crate::cases::small::{patterns, texts, tuples};
+use crate::cases::tallies::{one_below_power, power, sixteen_words, thresholds};
+use crate::cases::worked::{Rows, EXAMPLE_INPUT, EXAMPLE_OUTPUT, TEXTS};
+use crate::cases::{pattern, ANY_SPAN};
+use crate::layout::Cursors;
+use crate::rng::Rng;
+
+/// Asserts that a list, if the scope names it, has these rows.
+fn assert_rows(named: Option<Rows>, rows: &[Row]) {
+    if let Some(named) = named {
+        assert_eq!(named, rows);
+    }
+}
+
+/// The nine texts, by both methods.
+#[test]
+fn worked_texts() {
+    for case in &TEXTS {
+        let pattern = pattern(case.span, case.slots);
+        let listed = Brute::enumerated(&pattern, case.text);
+        let sieved = Brute::windowed(&pattern, case.text);
+        assert_rows(case.all, &listed.searcher().unwrap().all());
+        assert_rows(case.front, listed.front().unwrap());
+        assert_rows(case.front, sieved.front().unwrap());
+        assert_rows(case.back, listed.back().unwrap());
+        assert_rows(case.back, sieved.back().unwrap());
+        assert_eq!(listed.support().value, case.count as u64);
+        assert_eq!(largest_size(listed.searcher().unwrap().rows()), case.count);
+        for row in case.no_occurrences {
+            assert_eq!(listed.is_occurrence(row).value, 0);
+        }
+    }
+}
+
+/// The program's example, byte for byte.
+#[test]
+fn worked_report() {
+    assert_eq!(report(EXAMPLE_INPUT), EXAMPLE_OUTPUT);
+}
+
+/// What a file with these slot lines and span limits is refused with.
+fn refused(span: &str, slots: &str) -> (u32, usize) {
+    let file = format!("least most\n{span}\nlow high words\n{slots}");
+    let made = made_from_sheet(file.as_bytes());
+    (made.number, made.place)
+}
+
+/// The examples in the scope's table of refusals, 1 to 9.
+#[test]
+fn refusals_of_calls() {
+    assert_eq!(check(&pattern_of(1, 20_000), 0).number, 1);
+    let accepted = pattern(ANY_SPAN, &sevens(3, 0, 1));
+    let nine = with_slot(&accepted, 0, 0, &[7; 9]);
+    assert_eq!((nine.number, nine.place, nine.pattern), (2, 4, accepted));
+    assert_eq!(refused("1 20000", "0 0 0\n"), (3, 1));
+    assert_eq!(refused("1 20000", "0 0 7\n3 2 7\n"), (4, 2));
+    assert_eq!(refused("0 5", "0 0 7\n"), (5, 0));
+    assert_eq!(check(&accepted, 20_001).number, 6);
+    let text = [7, 7, 7, 7];
+    let brute = Brute::enumerated(&accepted, &text);
+    assert_eq!(brute.first_after(&[0, 0]).number, 7);
+    let short = brute.leftmost(&mut [0; 5]);
+    assert_eq!((short.number, short.place), (8, 2));
+    let short = brute.all(&mut [0; 5]);
+    assert_eq!((short.number, short.place), (8, 0));
+    let wide = pattern(ANY_SPAN, &sevens(16, 0, 63));
+    assert_eq!(Brute::windowed(&wide, &[7; 1000]).tally().number, 9);
+}
+
+/// The examples in the scope's table of refusals, 10 to 15.
+#[test]
+fn refusals_of_files_and_cursors() {
+    let made = made_from_sheet(b"least most\n1 5\nwords low\n0 0 7\n");
+    assert_eq!((made.number, made.place), (10, 3));
+    assert_eq!(refused("1 20000", "0 01 7\n"), (11, 4));
+    assert_eq!(made_from_sheet(&[b'\n'; 60_001]).number, 12);
+    assert_eq!(words_from_sheet(b"word\n7\n8\n", &mut [0]).number, 13);
+    let accepted = pattern(ANY_SPAN, &sevens(1, 0, 0));
+    let text = vec![7; 600];
+    let brute = Brute::enumerated(&accepted, &text);
+    assert_eq!(brute.next(&Cursors::default(), 5).number, 14);
+    let mut cursors = Cursors::default();
+    for call in 1..=500 {
+        let served = brute.next(&cursors, 4);
+        assert_eq!((served.number, served.found, served.places[0]), (0, 1, call));
+        cursors = served.cursors;
+    }
+    let served = brute.next(&cursors, 4);
+    assert_eq!((served.number, served.cursors), (15, cursors));
+}
+
+/// The texts made for the tally's limit stand exactly there.
+#[test]
+fn tallies_at_the_limit() {
+    let pattern = sixteen_words();
+    let tallied = |text: &[u16]| Brute::windowed(&pattern, text).tallied();
+    assert_eq!(tallied(&one_below_power(16)), Ok((1 << 64) - 1));
+    assert_eq!(tallied(&power(16)), Ok(1 << 64));
+    assert_eq!(tallied(&power(15)), Ok(1 << 60));
+    for (pattern, words) in thresholds() {
+        assert_eq!(Brute::windowed(&pattern, &vec![7; words - 1]).tally().number, 0);
+        assert_eq!(Brute::windowed(&pattern, &vec![7; words]).tally().number, 9);
+    }
+}
+
+/// What is written as a file is read back.
+#[test]
+fn files_read_back() {
+    let mut rng = Rng::new(1);
+    let kind = Kind { slots: (1, 16), highest_word: 65_535, most_words: 8, widest_gap: 63 };
+    for _ in 0..200 {
+        let written = any_pattern(&mut rng, &kind);
+        let read = made_from_sheet(&plain_pattern_file(&written));
+        assert_eq!((read.number, read.place), (0, 0));
+        assert_eq!(plain_pattern_file(&read.pattern), plain_pattern_file(&written));
+        let text = any_text(&mut rng, 50, 65_535);
+        let mut words = [9; 50];
+        assert_eq!(words_from_sheet(&text_file(&text), &mut words).value, 50);
+        assert_eq!(words, text[..]);
+    }
+}
+
+/// Writing out occurrences place by place agrees with testing every row.
+#[test]
+fn occurrences_are_all_rows_that_pass() {
+    let gaps = [(0, 0), (0, 2), (1, 2)];
+    let spans = [ANY_SPAN, (4, 5)];
+    for pattern in patterns(3, &[&[1], &[1, 2]], &gaps, &spans) {
+        for text in texts(&[1, 2], 5) {
+            let places: Vec<u16> = (0..=text.len() as u16 + 1).collect();
+            let mut rows = tuples(&places, 3);
+            rows.retain(|row| is_occurrence(&pattern, &text, row));
+            assert_eq!(occurrences(&pattern, &text), rows);
+        }
+    }
+}
+
+/// The two ways to search agree.
+#[test]
+fn sieves_agree_with_lists() {
+    let mut rng = Rng::new(2);
+    for round in 0..2_000 {
+        let kind = Kind { slots: (1, 6), highest_word: 4, most_words: 2, widest_gap: 1 + round % 4 };
+        let pattern = any_pattern(&mut rng, &kind);
+        let length = rng.within(0, 40);
+        let text = any_text(&mut rng, length, 4);
+        let listed = Brute::enumerated(&pattern, &text);
+        let sieved = Brute::windowed(&pattern, &text);
+        assert_eq!(listed.front(), sieved.front());
+        assert_eq!(listed.back(), sieved.back());
+        assert_eq!(listed.tally(), sieved.tally());
+        let rows = listed.searcher().unwrap().all();
+        assert_eq!(sieved.searcher().unwrap().all(), rows);
+        for _ in 0..10 {
+            let marks = any_marks(&mut rng, pattern.count, length);
+            assert_eq!(listed.first_after(&marks), sieved.first_after(&marks));
+            assert_eq!(listed.last_before(&marks), sieved.last_before(&marks));
+        }
+    }
+}

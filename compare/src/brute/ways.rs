@@ -1,0 +1,46 @@
+//! The tally in long texts: for each first place, the ways to reach each later place, slot after slot.
+
+use super::occurrences::{slots, stands, takes};
+use crate::layout::{Pattern, Slot};
+
+/// How many occurrences there are; below 20,000 · 64^15 < 2^105, so it never overflows.
+pub fn tally(pattern: &Pattern, text: &[u16]) -> u128 {
+    let first_slot = &pattern.slots[0];
+    (1..=text.len())
+        .filter(|&first| stands(first_slot, text, first as u16))
+        .map(|first| tally_from(pattern, &text[first - 1..]))
+        .sum()
+}
+
+/// How many occurrences begin at the first of these words, which the first slot takes.
+fn tally_from(pattern: &Pattern, words: &[u16]) -> u128 {
+    let mut ways = vec![1];
+    for slot in &slots(pattern)[1..] {
+        ways = ways_to(slot, &ways, words);
+    }
+    let spans = pattern.least as usize..=pattern.most as usize;
+    let fitting = ways.iter().enumerate().filter(|(offset, _)| spans.contains(&(offset + 1)));
+    fitting.map(|(_, ways)| ways).sum()
+}
+
+/// The ways to reach each word by one slot more, from the ways to reach each word so far.
+fn ways_to(slot: &Slot, before: &[u128], words: &[u16]) -> Vec<u128> {
+    let (low, high) = (slot.low as usize, slot.high as usize);
+    let mut up_to = vec![0];
+    for ways in before {
+        up_to.push(up_to[up_to.len() - 1] + ways);
+    }
+    let sum_below = |bound: usize| up_to[bound.min(before.len())];
+    let reached = (before.len() + high + 1).min(words.len());
+    let ways = |offset: usize| {
+        let fits = takes(slot, words[offset]);
+        let (nearest, farthest) = (offset.saturating_sub(low), offset.saturating_sub(high + 1));
+        let sum = sum_below(nearest) - sum_below(farthest);
+        if fits {
+            sum
+        } else {
+            0
+        }
+    };
+    (0..reached).map(ways).collect()
+}

@@ -1,0 +1,118 @@
+//! Inputs of the program: good ones, refused ones, and those at its limits.
+
+use super::files::{input, plain_pattern_file, text_file};
+use super::worked::{EXAMPLE_INPUT, TEXTS};
+use super::{pattern, Written, ANY_SPAN};
+
+/// So many slots that take the word 7, with these gaps between them.
+pub fn sevens(slots: usize, low: u16, high: u16) -> Vec<Written<'static>> {
+    let gap = |at: usize| {
+        if at == 0 {
+            (0, 0, &[7][..])
+        } else {
+            (low, high, &[7][..])
+        }
+    };
+    (0..slots).map(gap).collect()
+}
+
+/// The input for these slots and a text of so many sevens.
+fn sevens_input(slots: &[Written], words: usize) -> Vec<u8> {
+    let file = plain_pattern_file(&pattern(ANY_SPAN, slots));
+    input(&file, &text_file(&vec![7; words]))
+}
+
+/// The worked texts as inputs.
+fn worked() -> Vec<Vec<u8>> {
+    let worked = TEXTS.iter().map(|case| {
+        let file = plain_pattern_file(&pattern(case.span, case.slots));
+        input(&file, &text_file(case.text))
+    });
+    worked.collect()
+}
+
+/// Inputs on both sides of the room for lists, of the tally's limit, and of the limits on words and bytes.
+fn at_limits() -> Vec<Vec<u8>> {
+    let wide = sevens(16, 0, 63);
+    let mut inputs: Vec<Vec<u8>> = [
+        (sevens(1, 0, 0), 16_000),
+        (sevens(1, 0, 0), 16_001),
+        (sevens(1, 0, 0), 20_000),
+        (sevens(1, 0, 0), 20_001),
+        (sevens(2, 0, 0), 8_001),
+        (sevens(2, 0, 0), 8_002),
+        (sevens(3, 0, 1), 5_335),
+        (sevens(3, 0, 1), 5_336),
+        (wide.clone(), 116),
+        (wide.clone(), 117),
+        (wide.clone(), 1_000),
+        (wide.clone(), 1_015),
+        (wide, 1_016),
+    ]
+    .iter()
+    .map(|(slots, words)| sevens_input(slots, *words))
+    .collect();
+    let full = sevens_input(&sevens(1, 0, 0), 10);
+    inputs.push(padded(&full, 60_000));
+    inputs.push(padded(&full, 60_001));
+    inputs.push(vec![b'\n'; 60_000]);
+    inputs.push(vec![b'\n'; 60_001]);
+    inputs
+}
+
+/// The input with lines of 5 bytes added, and a line of 2 to 6 bytes, up to exactly so many bytes.
+fn padded(input: &[u8], bytes: usize) -> Vec<u8> {
+    let mut padded = input.to_vec();
+    while padded.len() + 6 < bytes {
+        padded.extend(b"9876\n");
+    }
+    let digits = bytes - padded.len() - 1;
+    padded.extend(&b"12345"[..digits]);
+    padded.extend(b"\n");
+    assert_eq!(padded.len(), bytes, "the input was not filled up");
+    padded
+}
+
+/// Inputs that are refused, or parted in odd ways.
+fn odd() -> Vec<Vec<u8>> {
+    let good = b"least most\n1 20000\nlow high words\n0 0 7\n";
+    let tails: [&[u8]; 16] = [
+        b"",
+        b"\n",
+        b"\nword\n",
+        b"\nword",
+        b"\nword\n7",
+        b"\nword\n7\n",
+        b"\nword\n7\n\n",
+        b"\n\nword\n7\n",
+        b"\nwords\n7\n",
+        b"\nword\n07\n",
+        b"\nword\n65535\n65536\n",
+        b"\nword \n7\n",
+        b"3 2 7\n\nword\n7\n",
+        b"0 01 7\n\nword\n7\n",
+        b"0 0 1,2,3,4,5,6,7,8,9\n\nwrd\n",
+        b"0 0 0\n\nword\n7\n",
+    ];
+    let mut inputs: Vec<Vec<u8>> = tails.iter().map(|tail| [good, *tail].concat()).collect();
+    let whole: [&[u8]; 10] = [
+        b"",
+        b"\n",
+        b"\n\n",
+        b"\nword\n7\n",
+        b"least most\n",
+        b"least most\n0 5\nlow high words\n0 0 7\n\nword\n7\n",
+        b"least most\n1 5\nlow high words\n\nword\n7\n",
+        b"least most\n1 5\nwords low\n0 0 7\n\nword\n7\n",
+        b"most least\n3 2\nwords high low\n7,8 0 0\n9 1 0\n\nword\n8\n9\n7\n0\n9\n",
+        b"least most\r\n1 5\r\n",
+    ];
+    inputs.extend(whole.map(<[u8]>::to_vec));
+    inputs
+}
+
+/// Some dozens of inputs.
+pub fn inputs() -> Vec<Vec<u8>> {
+    let example = vec![EXAMPLE_INPUT.to_vec()];
+    [example, worked(), at_limits(), odd()].concat()
+}

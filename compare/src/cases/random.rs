@@ -1,0 +1,112 @@
+//! Patterns, texts, rows and marks at random.
+
+use super::{pattern, Written, ANY_SPAN};
+use crate::layout::{Cursors, Pattern, Slot};
+use crate::rng::Rng;
+
+/// What random patterns are like.
+pub struct Kind {
+    pub slots: (usize, usize),
+    pub highest_word: u16,
+    pub most_words: usize,
+    pub widest_gap: u16,
+}
+
+/// A pattern within the limits, its entries past the stated numbers at random.
+pub fn any_pattern(rng: &mut Rng, kind: &Kind) -> Pattern {
+    let mut slots = Vec::new();
+    for at in 0..rng.within(kind.slots.0, kind.slots.1) {
+        let count = rng.within(1, kind.most_words);
+        let words: Vec<u16> = (0..count).map(|_| rng.word(1, kind.highest_word)).collect();
+        let (one, other) = (rng.word(0, kind.widest_gap), rng.word(0, kind.widest_gap));
+        let gap = if at == 0 { (0, 0) } else { (one.min(other), one.max(other)) };
+        slots.push((gap.0, gap.1, words));
+    }
+    let written: Vec<Written> = slots.iter().map(|(low, high, words)| (*low, *high, &words[..])).collect();
+    let mut made = pattern(any_span(rng, &written), &written);
+    add_garbage(rng, &mut made);
+    made
+}
+
+/// Span limits that some rows keep and others break.
+fn any_span(rng: &mut Rng, slots: &[Written]) -> (u16, u16) {
+    let shortest: u16 = slots.iter().map(|slot| slot.0).sum::<u16>() + slots.len() as u16;
+    let longest: u16 = slots.iter().map(|slot| slot.1).sum::<u16>() + slots.len() as u16;
+    let (one, other) = (rng.word(shortest, longest), rng.word(shortest, longest));
+    match rng.within(1, 4) {
+        1 => (one.min(other), one.max(other)),
+        2 => (one, 20_000),
+        3 => (1, one),
+        _ => ANY_SPAN,
+    }
+}
+
+/// Puts random numbers into the entries past the stated numbers of slots and words.
+pub fn add_garbage(rng: &mut Rng, pattern: &mut Pattern) {
+    for (at, slot) in pattern.slots.iter_mut().enumerate() {
+        if at >= pattern.count {
+            *slot = any_slot(rng);
+        } else {
+            let used = slot.count.min(8);
+            slot.words[used..].fill_with(|| rng.word(0, 9));
+        }
+    }
+}
+
+/// A slot that keeps no limit.
+fn any_slot(rng: &mut Rng) -> Slot {
+    Slot {
+        words: std::array::from_fn(|_| rng.word(0, 9)),
+        count: rng.pick(&[0, 1, 8, 9, 65_535, usize::MAX]),
+        low: rng.word(0, 65_535),
+        high: rng.word(0, 65_535),
+    }
+}
+
+/// A text of so many words, none above `highest`; now and then a 0 among them.
+pub fn any_text(rng: &mut Rng, length: usize, highest: u16) -> Vec<u16> {
+    let word = |rng: &mut Rng| {
+        if rng.once_in(12) {
+            0
+        } else {
+            rng.word(1, highest)
+        }
+    };
+    (0..length).map(|_| word(rng)).collect()
+}
+
+/// Breaks one limit of the pattern; called again, it breaks one more.
+pub fn break_pattern(rng: &mut Rng, pattern: &mut Pattern) {
+    let slots = pattern.count.clamp(1, 16);
+    let slot = &mut pattern.slots[rng.within(1, slots) - 1];
+    match rng.within(1, 8) {
+        1 => pattern.count = rng.pick(&[0, 17, 65_535, usize::MAX]),
+        2 | 3 => slot.count = rng.pick(&[0, 9, 65_535, usize::MAX]),
+        4 | 5 => slot.words[rng.within(1, slot.count.clamp(1, 8)) - 1] = 0,
+        6 => (slot.low, slot.high) = rng.pick(&[(1, 0), (64, 64), (0, 64), (65_535, 63), (0, 65_535)]),
+        7 => pattern.slots[0].high = 1,
+        _ => (pattern.least, pattern.most) = rng.pick(&[(0, 5), (0, 0), (6, 5), (1, 20_001), (1, 65_535)]),
+    }
+}
+
+/// Marks for so many slots: near the text's places, and now and then far off.
+pub fn any_marks(rng: &mut Rng, slots: usize, text: usize) -> Vec<u16> {
+    let highest = rng.within(0, text + 1) as u16;
+    let mark = |rng: &mut Rng| match rng.within(1, 12) {
+        1 => 0,
+        2 => 65_535,
+        3 => rng.word(0, 65_535),
+        _ => rng.word(0, highest),
+    };
+    (0..slots).map(|_| mark(rng)).collect()
+}
+
+/// A state of the cursors with any values.
+pub fn any_cursors(rng: &mut Rng, text: usize) -> Cursors {
+    let mut cursors = Cursors::default();
+    for marks in &mut cursors.marks {
+        marks.places.copy_from_slice(&any_marks(rng, 16, text));
+    }
+    cursors.served = rng.pick(&[0, 1, 250, 498, 499, 500, 501, 65_535, usize::MAX]);
+    cursors
+}

@@ -1,0 +1,47 @@
+//! Texts whose tallies stand at the limit of 64 bits.
+
+use super::inputs::sevens;
+use super::{pattern, Written, ANY_SPAN};
+use crate::layout::Pattern;
+
+/// Sixteen slots, slot j taking the word j, any gaps between them.
+pub fn sixteen_words() -> Pattern {
+    const WORDS: [[u16; 1]; 16] =
+        [[1], [2], [3], [4], [5], [6], [7], [8], [9], [10], [11], [12], [13], [14], [15], [16]];
+    let slot = |at: usize| (0, if at == 0 { 0 } else { 63 }, &WORDS[at][..]);
+    let slots: Vec<Written> = (0..16).map(slot).collect();
+    pattern(ANY_SPAN, &slots)
+}
+
+/// A part of a text in which the word j stands as often as stated, so that the occurrences are their product.
+fn product(times: [usize; 16]) -> Vec<u16> {
+    let repeated = |at: usize| vec![at as u16 + 1; times[at]];
+    (0..16).flat_map(repeated).collect()
+}
+
+/// The text with so many parts, part i having 15 · 16^i occurrences of `sixteen_words`; together 16^parts − 1.
+pub fn one_below_power(parts: usize) -> Vec<u16> {
+    let mut text = Vec::new();
+    for part in 0..parts {
+        let times = |at: usize| match at {
+            _ if at < part => 16,
+            _ if at == part => 15,
+            _ => 1,
+        };
+        text.extend(product(std::array::from_fn(times)));
+        text.extend([0; 64]);
+    }
+    text
+}
+
+/// The same text with one occurrence more.
+pub fn power(parts: usize) -> Vec<u16> {
+    [one_below_power(parts), product([1; 16])].concat()
+}
+
+/// Slots of the word 7 with gaps 0 to 63, and the first number of sevens whose tally is over 64 bits.
+pub fn thresholds() -> Vec<(Pattern, usize)> {
+    let first_over = [(11, 309), (12, 222), (13, 179), (14, 151), (15, 131), (16, 117)];
+    let patterns = first_over.map(|(slots, words)| (pattern(ANY_SPAN, &sevens(slots, 0, 63)), words));
+    patterns.to_vec()
+}

@@ -1,0 +1,163 @@
+//! The library's calls: their declarations, and a thin safe wrapper for each.
+
+use crate::layout::{Answer, Cursors, Excerpted, Found, Made, Pattern, Served};
+
+extern "C" {
+    fn bedbloomer_count(pattern: *const u8, pattern_bytes: usize, text: *const u8, text_bytes: usize) -> u32;
+    fn bedbloomer_report(input: *const u8, input_bytes: usize, out: *mut u8, out_bytes: usize) -> usize;
+    fn bedbloomer_read_pattern(bytes: *const u8, byte_count: usize) -> Made;
+    fn bedbloomer_read_text(bytes: *const u8, byte_count: usize, words: *mut u16, word_count: usize) -> Answer;
+    fn bedbloomer_pattern_of(least: u16, most: u16) -> Pattern;
+    fn bedbloomer_with_slot(pattern: Pattern, low: u16, high: u16, words: *const u16, word_count: usize) -> Made;
+    fn bedbloomer_check(pattern: Pattern, words: usize) -> Answer;
+    fn bedbloomer_is_occurrence(
+        pattern: Pattern,
+        text: *const u16,
+        text_words: usize,
+        row: *const u16,
+        row_places: usize,
+    ) -> Answer;
+    fn bedbloomer_excerpt(
+        pattern: Pattern,
+        text: *const u16,
+        text_words: usize,
+        row: *const u16,
+        row_places: usize,
+        index: usize,
+    ) -> Excerpted;
+    fn bedbloomer_first_after(
+        pattern: Pattern,
+        text: *const u16,
+        text_words: usize,
+        marks: *const u16,
+        mark_count: usize,
+    ) -> Found;
+    fn bedbloomer_last_before(
+        pattern: Pattern,
+        text: *const u16,
+        text_words: usize,
+        marks: *const u16,
+        mark_count: usize,
+    ) -> Found;
+    fn bedbloomer_leftmost(
+        pattern: Pattern,
+        text: *const u16,
+        text_words: usize,
+        list: *mut u16,
+        list_entries: usize,
+    ) -> Answer;
+    fn bedbloomer_rightmost(
+        pattern: Pattern,
+        text: *const u16,
+        text_words: usize,
+        list: *mut u16,
+        list_entries: usize,
+    ) -> Answer;
+    fn bedbloomer_all(
+        pattern: Pattern,
+        text: *const u16,
+        text_words: usize,
+        list: *mut u16,
+        list_entries: usize,
+    ) -> Answer;
+    fn bedbloomer_support(pattern: Pattern, text: *const u16, text_words: usize) -> Answer;
+    fn bedbloomer_tally(pattern: Pattern, text: *const u16, text_words: usize) -> Answer;
+    fn bedbloomer_next(
+        cursors: Cursors,
+        client: usize,
+        pattern: Pattern,
+        text: *const u16,
+        text_words: usize,
+    ) -> Served;
+    fn bedbloomer_rewind(cursors: Cursors, client: usize) -> Served;
+}
+
+/// The count for a pattern file and a text file, or 100,000 plus the refusal's number.
+pub fn count(pattern: &[u8], text: &[u8]) -> u32 {
+    unsafe { bedbloomer_count(pattern.as_ptr(), pattern.len(), text.as_ptr(), text.len()) }
+}
+
+/// Writes what the program prints, as far as `out` holds it: how many bytes.
+pub fn report(input: &[u8], out: &mut [u8]) -> usize {
+    unsafe { bedbloomer_report(input.as_ptr(), input.len(), out.as_mut_ptr(), out.len()) }
+}
+
+/// The pattern in a pattern file.
+pub fn read_pattern(bytes: &[u8]) -> Made {
+    unsafe { bedbloomer_read_pattern(bytes.as_ptr(), bytes.len()) }
+}
+
+/// Writes the words in a text file to the start of `words`: how many.
+pub fn read_text(bytes: &[u8], words: &mut [u16]) -> Answer {
+    unsafe { bedbloomer_read_text(bytes.as_ptr(), bytes.len(), words.as_mut_ptr(), words.len()) }
+}
+
+/// A pattern without slots, with these span limits.
+pub fn pattern_of(least: u16, most: u16) -> Pattern {
+    unsafe { bedbloomer_pattern_of(least, most) }
+}
+
+/// The pattern with one slot more.
+pub fn with_slot(pattern: &Pattern, low: u16, high: u16, words: &[u16]) -> Made {
+    unsafe { bedbloomer_with_slot(*pattern, low, high, words.as_ptr(), words.len()) }
+}
+
+/// The tests of a pattern, and of a text of so many words.
+pub fn check(pattern: &Pattern, words: usize) -> Answer {
+    unsafe { bedbloomer_check(*pattern, words) }
+}
+
+/// Whether a row is an occurrence.
+pub fn is_occurrence(pattern: &Pattern, text: &[u16], row: &[u16]) -> Answer {
+    unsafe { bedbloomer_is_occurrence(*pattern, text.as_ptr(), text.len(), row.as_ptr(), row.len()) }
+}
+
+/// How long the row's excerpt is, and its word at an index from 0.
+pub fn excerpt(pattern: &Pattern, text: &[u16], row: &[u16], index: usize) -> Excerpted {
+    unsafe { bedbloomer_excerpt(*pattern, text.as_ptr(), text.len(), row.as_ptr(), row.len(), index) }
+}
+
+/// The earliest occurrence past the marks.
+pub fn first_after(pattern: &Pattern, text: &[u16], marks: &[u16]) -> Found {
+    unsafe { bedbloomer_first_after(*pattern, text.as_ptr(), text.len(), marks.as_ptr(), marks.len()) }
+}
+
+/// The latest occurrence before the marks.
+pub fn last_before(pattern: &Pattern, text: &[u16], marks: &[u16]) -> Found {
+    unsafe { bedbloomer_last_before(*pattern, text.as_ptr(), text.len(), marks.as_ptr(), marks.len()) }
+}
+
+/// Writes the front list: how many rows.
+pub fn leftmost(pattern: &Pattern, text: &[u16], list: &mut [u16]) -> Answer {
+    unsafe { bedbloomer_leftmost(*pattern, text.as_ptr(), text.len(), list.as_mut_ptr(), list.len()) }
+}
+
+/// Writes the back list: how many rows.
+pub fn rightmost(pattern: &Pattern, text: &[u16], list: &mut [u16]) -> Answer {
+    unsafe { bedbloomer_rightmost(*pattern, text.as_ptr(), text.len(), list.as_mut_ptr(), list.len()) }
+}
+
+/// Writes all occurrences: how many rows.
+pub fn all(pattern: &Pattern, text: &[u16], list: &mut [u16]) -> Answer {
+    unsafe { bedbloomer_all(*pattern, text.as_ptr(), text.len(), list.as_mut_ptr(), list.len()) }
+}
+
+/// The count.
+pub fn support(pattern: &Pattern, text: &[u16]) -> Answer {
+    unsafe { bedbloomer_support(*pattern, text.as_ptr(), text.len()) }
+}
+
+/// The tally.
+pub fn tally(pattern: &Pattern, text: &[u16]) -> Answer {
+    unsafe { bedbloomer_tally(*pattern, text.as_ptr(), text.len()) }
+}
+
+/// The next occurrence for a client.
+pub fn next(cursors: &Cursors, client: usize, pattern: &Pattern, text: &[u16]) -> Served {
+    unsafe { bedbloomer_next(*cursors, client, *pattern, text.as_ptr(), text.len()) }
+}
+
+/// A client's marks set to 0.
+pub fn rewind(cursors: &Cursors, client: usize) -> Served {
+    unsafe { bedbloomer_rewind(*cursors, client) }
+}

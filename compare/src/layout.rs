@@ -1,0 +1,83 @@
+//! The structures of the C header, declared again.
+
+/// A slot: the first `count` of its words, and the gap before it.
+#[repr(C)]
+#[derive(Clone, Copy, Debug, Default, PartialEq, Eq)]
+pub struct Slot {
+    pub words: [u16; 8],
+    pub count: usize,
+    pub low: u16,
+    pub high: u16,
+}
+
+/// A pattern: the first `count` of its slots, and its span limits.
+#[repr(C)]
+#[derive(Clone, Copy, Debug, PartialEq, Eq)]
+pub struct Pattern {
+    pub slots: [Slot; 16],
+    pub count: usize,
+    pub least: u16,
+    pub most: u16,
+}
+
+/// An answer, or a refusal with its place.
+#[repr(C)]
+#[derive(Clone, Copy, Debug, PartialEq, Eq)]
+pub struct Answer {
+    pub number: u32,
+    pub place: usize,
+    pub value: u64,
+}
+
+/// A pattern, beside a refusal with its place or 0 0.
+#[repr(C)]
+#[derive(Clone, Copy, Debug, PartialEq, Eq)]
+pub struct Made {
+    pub number: u32,
+    pub place: usize,
+    pub pattern: Pattern,
+}
+
+/// What a search found.
+#[repr(C)]
+#[derive(Clone, Copy, Debug, PartialEq, Eq)]
+pub struct Found {
+    pub number: u32,
+    pub place: usize,
+    pub found: u64,
+    pub places: [u16; 16],
+}
+
+/// How long an excerpt is, and one of its words.
+#[repr(C)]
+#[derive(Clone, Copy, Debug, PartialEq, Eq)]
+pub struct Excerpted {
+    pub length: usize,
+    pub word: u16,
+}
+
+/// The marks of one client.
+#[repr(C)]
+#[derive(Clone, Copy, Debug, Default, PartialEq, Eq)]
+pub struct Marks {
+    pub places: [u16; 16],
+}
+
+/// The marks of clients 1 to 4, and the number served.
+#[repr(C)]
+#[derive(Clone, Copy, Debug, Default, PartialEq, Eq)]
+pub struct Cursors {
+    pub marks: [Marks; 4],
+    pub served: usize,
+}
+
+/// The state that a call of `next` or `rewind` leaves, beside what it answers.
+#[repr(C)]
+#[derive(Clone, Copy, Debug, PartialEq, Eq)]
+pub struct Served {
+    pub cursors: Cursors,
+    pub number: u32,
+    pub place: usize,
+    pub found: u64,
+    pub places: [u16; 16],
+}

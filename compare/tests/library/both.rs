@@ -1,0 +1,186 @@
+//! Every call on a pattern and a text, made on the library and worked out by brute force.
+
+use std::fmt::Debug;
+
+use compare::brute::{self, Brute, Row, Searcher};
+use compare::ffi;
+use compare::layout::{Answer, Cursors, Found, Pattern};
+
+use crate::lent::Lent;
+use crate::run::Run;
+
+/// A list call of the library, and the same of the brute force.
+type ListCall<'a, S> =
+    (&'static str, fn(&Pattern, &[u16], &mut [u16]) -> Answer, fn(&Brute<'a, S>, &mut [u16]) -> Answer);
+
+/// A search of the library, and the same of the brute force.
+type Search<'a, S> = (&'static str, fn(&Pattern, &[u16], &[u16]) -> Found, fn(&Brute<'a, S>, &[u16]) -> Found);
+
+/// The longest list lent for all occurrences.
+const LONGEST: usize = 400_000;
+
+/// A pattern and a text whose calls are compared.
+pub struct Both<'a, S> {
+    pub run: &'a mut Run,
+    pub brute: Brute<'a, S>,
+}
+
+impl<'a, S: Searcher> Both<'a, S> {
+    /// Begins one input of the run.
+    pub fn new(run: &'a mut Run, brute: Brute<'a, S>) -> Self {
+        run.input();
+        Both { run, brute }
+    }
+
+    /// Stops with the case written out unless both agree.
+    fn agree<T: PartialEq + Debug>(&self, library: &T, brute: &T, call: impl Fn() -> String) {
+        let (pattern, text) = (self.brute.pattern, self.brute.text);
+        let case = || format!("{}\npattern: {pattern:?}\ntext: {text:?}", call());
+        self.run.agree(library, brute, case);
+    }
+
+    /// Compares an answer that comes without a list.
+    fn answered(&mut self, library: Answer, brute: Answer, call: &str) {
+        self.agree(&library, &brute, || call.to_string());
+        self.run.call(library.number);
+    }
+
+    /// Compares the tests of the limits.
+    pub fn check(&mut self) {
+        check(self.run, self.brute.pattern, self.brute.text.len());
+    }
+
+    /// Compares the count and the tally.
+    pub fn numbers(&mut self) {
+        let (pattern, text) = (self.brute.pattern, self.brute.text);
+        let brute = self.brute.support();
+        self.answered(ffi::support(pattern, text), brute, "support");
+        self.tally();
+    }
+
+    /// Compares the tally.
+    pub fn tally(&mut self) {
+        let brute = self.brute.tally();
+        let library = ffi::tally(self.brute.pattern, self.brute.text);
+        self.answered(library, brute, "tally");
+    }
+
+    /// Compares whether a row is an occurrence, and every word of its excerpt.
+    pub fn row(&mut self, row: &[u16]) {
+        let (pattern, text) = (self.brute.pattern, self.brute.text);
+        let library = ffi::is_occurrence(pattern, text, row);
+        let brute = self.brute.is_occurrence(row);
+        self.agree(&library, &brute, || format!("is_occurrence {row:?}"));
+        self.run.call(library.number);
+        let length = self.brute.excerpt(row, 0).length;
+        for index in (0..=length).chain([usize::MAX]) {
+            let library = ffi::excerpt(pattern, text, row, index);
+            let brute = self.brute.excerpt(row, index);
+            self.agree(&library, &brute, || format!("excerpt {row:?} at {index}"));
+            self.run.call(0);
+        }
+    }
+
+    /// Compares both searches from these marks.
+    pub fn searches(&mut self, marks: &[u16]) {
+        let searches: [Search<S>; 2] = [
+            ("first_after", ffi::first_after, Brute::first_after),
+            ("last_before", ffi::last_before, Brute::last_before),
+        ];
+        for (name, library, brute) in searches {
+            let library = library(self.brute.pattern, self.brute.text, marks);
+            let brute = brute(&self.brute, marks);
+            self.agree(&library, &brute, || format!("{name} {marks:?}"));
+            self.run.call(library.number);
+        }
+    }
+
+    /// Compares the front and the back list, with lists of every interesting length lent.
+    pub fn lists(&mut self) {
+        let rows = self.brute.front().map_or(0, <[Row]>::len);
+        let entries = rows * self.brute.pattern.count.min(16);
+        for room in [vec![0, entries + 1], rooms(entries)].concat() {
+            self.list(("leftmost", ffi::leftmost, Brute::leftmost), room);
+            self.list(("rightmost", ffi::rightmost, Brute::rightmost), room);
+        }
+    }
+
+    /// Compares the list of all occurrences, with lists of every interesting length lent.
+    pub fn all(&mut self) {
+        let rows = self.brute.tallied().unwrap_or(0);
+        let entries = rows * self.brute.pattern.count.min(16) as u128;
+        let rooms = match usize::try_from(entries) {
+            Ok(entries) if entries <= LONGEST => rooms(entries),
+            _ => vec![0, LONGEST],
+        };
+        for room in rooms {
+            self.list(("all", ffi::all, Brute::all), room);
+        }
+    }
+
+    /// Compares one list call with so many entries lent.
+    fn list(&mut self, (name, library, brute): ListCall<'a, S>, room: usize) {
+        let (mut lent, mut expected) = (Lent::places(room), Lent::places(room));
+        let library = library(self.brute.pattern, self.brute.text, lent.part());
+        let brute = brute(&self.brute, expected.part());
+        let call = || format!("{name} with {room} entries lent");
+        self.agree(&library, &brute, call);
+        self.agree(&lent, &expected, call);
+        self.run.call(library.number);
+    }
+
+    /// Compares the next occurrence for a client, and gives the state after it.
+    pub fn next(&mut self, cursors: &Cursors, client: usize) -> Cursors {
+        let (pattern, text) = (self.brute.pattern, self.brute.text);
+        let library = ffi::next(cursors, client, pattern, text);
+        let brute = self.brute.next(cursors, client);
+        self.agree(&library, &brute, || format!("next for {client} from {cursors:?}"));
+        self.run.call(library.number);
+        library.cursors
+    }
+
+    /// Compares each call once or more, with these marks, which also serve as a row.
+    pub fn every_call(&mut self, marks: &[u16], cursors: &Cursors, client: usize) {
+        self.check();
+        self.numbers();
+        self.row(marks);
+        self.searches(marks);
+        self.lists();
+        self.all();
+        self.next(cursors, client);
+    }
+}
+
+/// Lengths for a list that takes so many entries: one too short, exact, longer by some.
+fn rooms(entries: usize) -> Vec<usize> {
+    let mut rooms = vec![entries.saturating_sub(1), entries, entries + 37];
+    rooms.dedup();
+    rooms
+}
+
+/// Compares the tests of a pattern and of a text of so many words.
+pub fn check(run: &mut Run, pattern: &Pattern, words: usize) {
+    let (library, brute) = (ffi::check(pattern, words), brute::check(pattern, words));
+    let case = || format!("check with {words} words\npattern: {pattern:?}");
+    run.agree(&library, &brute, case);
+    run.call(library.number);
+}
+
+/// Compares adding a slot to a pattern.
+pub fn with_slot(run: &mut Run, pattern: &Pattern, low: u16, high: u16, words: &[u16]) {
+    let library = ffi::with_slot(pattern, low, high, words);
+    let brute = brute::with_slot(pattern, low, high, words);
+    let case = || format!("with_slot {low} {high} {words:?}\npattern: {pattern:?}");
+    run.agree(&library, &brute, case);
+    run.call(library.number);
+}
+
+/// Compares setting a client's marks to 0, and gives the state after it.
+pub fn rewind(run: &mut Run, cursors: &Cursors, client: usize) -> Cursors {
+    let library = ffi::rewind(cursors, client);
+    let brute = brute::rewind(cursors, client);
+    let case = || format!("rewind {client} from {cursors:?}");
+    run.agree(&library, &brute, case);
+    run.call(library.number);
+    library.cursors
+}

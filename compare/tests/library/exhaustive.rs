@@ -1,0 +1,106 @@
+//! All small texts and patterns, and all their largest nonoverlapping sets.
+
+use compare::brute::{largest_sets, largest_size, overlap, sorted_by_slot, Brute, Enumerated, Row};
+use compare::cases::small::{patterns, texts, tuples};
+use compare::cases::ANY_SPAN;
+use compare::layout::Pattern;
+use compare::rng::Rng;
+
+use crate::both::Both;
+use crate::run::Run;
+
+/// Gaps of every small shape.
+const GAPS: [(u16, u16); 6] = [(0, 0), (0, 1), (1, 1), (0, 2), (1, 2), (2, 2)];
+
+/// Span limits that bind in small texts, and some that do not.
+const SPANS: [(u16, u16); 5] = [ANY_SPAN, (3, 4), (1, 3), (4, 4), (2, 20_000)];
+
+/// The most rows tried for one pattern and text, besides its occurrences.
+const ROWS: usize = 512;
+
+/// The most marks tried for one pattern and text, besides its occurrences.
+const MARKS: usize = 8;
+
+/// The most largest sets looked at for one pattern and text.
+const SETS: usize = 300;
+
+/// Compares all small texts and patterns.
+pub fn run(run: &mut Run) {
+    let mut rng = Rng::new(11);
+    let sets: [&[u16]; 3] = [&[1], &[2], &[1, 2]];
+    let apart: [&[u16]; 3] = [&[1], &[2], &[3, 1]];
+    let wide = [(0, 1), (1, 2), (0, 2)];
+    let families = [
+        (patterns(1, &sets, &GAPS, &SPANS), texts(&[1, 2], 6)),
+        (patterns(2, &sets, &GAPS, &SPANS), texts(&[1, 2], 6)),
+        (patterns(2, &sets, &wide, &SPANS[..3]), texts(&[0, 1, 2], 4)),
+        (patterns(3, &sets, &wide, &SPANS[..2]), texts(&[1, 2], 5)),
+        (patterns(3, &apart, &[(0, 2)], &SPANS[..1]), texts(&[1, 2, 3], 5)),
+        (patterns(3, &sets[2..], &wide, &SPANS), texts(&[0, 1], 6)),
+        (patterns(4, &sets[..1], &wide, &SPANS[..2]), texts(&[1, 2], 6)),
+    ];
+    for (patterns, texts) in families {
+        for pattern in &patterns {
+            for text in &texts {
+                compare(run, &mut rng, pattern, text);
+            }
+        }
+    }
+}
+
+/// Compares every call on one small pattern and text.
+fn compare(run: &mut Run, rng: &mut Rng, pattern: &Pattern, text: &[u16]) {
+    let mut both = Both::new(run, Brute::enumerated(pattern, text));
+    both.check();
+    both.numbers();
+    both.lists();
+    both.all();
+    let searcher = both.brute.searcher().expect("small patterns are accepted");
+    let occurrences = searcher.rows().to_vec();
+    let last = text.len() as u16;
+    let places: Vec<u16> = (0..=last + 1).collect();
+    for row in some(rng, &places, pattern.count, ROWS) {
+        both.row(&row);
+    }
+    let marks: Vec<u16> = [0, 1, 2, last / 2, last, last + 1, 65_535].to_vec();
+    for marks in some(rng, &marks, pattern.count, MARKS) {
+        both.searches(&marks);
+    }
+    both.searches(&vec![0; pattern.count]);
+    both.searches(&vec![65_535; pattern.count]);
+    for occurrence in &occurrences {
+        both.row(occurrence);
+        both.searches(occurrence);
+    }
+    largest(&both, &occurrences);
+}
+
+/// All rows of so many entries over these choices, or `most` of them if there are more.
+fn some(rng: &mut Rng, choices: &[u16], length: usize, most: usize) -> Vec<Row> {
+    if choices.len().pow(length as u32) <= most {
+        return tuples(choices, length);
+    }
+    let row = |rng: &mut Rng| (0..length).map(|_| rng.pick(choices)).collect();
+    (0..most).map(|_| row(rng)).collect()
+}
+
+/// Asserts that the lists are largest nonoverlapping sets, and that every such set, sorted, lies between them.
+fn largest(both: &Both<Enumerated>, occurrences: &[Row]) {
+    let (pattern, text) = (both.brute.pattern, both.brute.text);
+    let case = || format!("pattern: {pattern:?}\ntext: {text:?}");
+    let front = both.brute.front().expect("accepted");
+    let back = both.brute.back().expect("accepted");
+    for list in [front, back] {
+        let apart = |(at, row): (usize, &Row)| list[..at].iter().all(|other| !overlap(other, row));
+        assert!(list.iter().enumerate().all(apart), "a list overlaps\n{}", case());
+        assert_eq!(list.len(), largest_size(occurrences), "not largest\n{}", case());
+    }
+    for set in largest_sets(occurrences, SETS) {
+        for (at, row) in sorted_by_slot(&set).iter().enumerate() {
+            let within = |slot: usize| front[at][slot] <= row[slot] && row[slot] <= back[at][slot];
+            let lies_between = (0..row.len()).all(within);
+            let occurs = occurrences.contains(row);
+            assert!(lies_between && occurs, "set {set:?}, row {row:?}\n{}", case());
+        }
+    }
+}

@@ -1,0 +1,191 @@
+//! Each limit of patterns, texts, rows, lists, tallies and clients, from both sides.
+
+use compare::brute::{self, Brute};
+use compare::cases::inputs::sevens;
+use compare::cases::random::add_garbage;
+use compare::cases::tallies::{one_below_power, power, sixteen_words, thresholds};
+use compare::cases::{pattern, ANY_SPAN};
+use compare::ffi;
+use compare::layout::{Cursors, Pattern};
+use compare::rng::Rng;
+
+use crate::both::{check, rewind, with_slot, Both};
+use crate::run::Run;
+
+/// Numbers of slots or words on both sides of their limits, and some that look small when cut to fewer bits.
+const COUNTS: [usize; 14] = [0, 1, 2, 8, 9, 15, 16, 17, 256, 65_535, 65_537, (1 << 32) + 1, 1 << 63, usize::MAX];
+
+/// A text with occurrences of the patterns below.
+const TEXT: [u16; 9] = [7, 7, 0, 7, 8, 7, 7, 9, 7];
+
+/// Compares each limit from both sides.
+pub fn run(run: &mut Run) {
+    let mut rng = Rng::new(33);
+    for mut pattern in patterns() {
+        compare(run, &pattern, &TEXT);
+        add_garbage(&mut rng, &mut pattern);
+        compare(run, &pattern, &TEXT);
+    }
+    new_patterns(run);
+    texts(run);
+    row_lengths(run);
+    tallies(run);
+    clients(run);
+}
+
+/// Compares every call on a pattern and a text.
+fn compare(run: &mut Run, pattern: &Pattern, text: &[u16]) {
+    let marks = vec![0; pattern.count.min(30)];
+    let mut both = Both::new(run, Brute::windowed(pattern, text));
+    both.every_call(&marks, &Cursors::default(), 1);
+}
+
+/// Patterns on both sides of each of their limits.
+fn patterns() -> Vec<Pattern> {
+    let mut found = Vec::new();
+    for count in COUNTS {
+        let mut stated = pattern(ANY_SPAN, &sevens(16, 0, 1));
+        stated.count = count;
+        found.push(stated);
+    }
+    for slots in [1, 3, 16] {
+        let base = pattern(ANY_SPAN, &sevens(slots, 0, 1));
+        for at in [0, slots / 2, slots - 1] {
+            found.extend(with_words(&base, at));
+            found.extend(with_gaps(&base, at));
+        }
+        found.extend(with_spans(&base));
+    }
+    found
+}
+
+/// The pattern with every interesting number of words in one slot, and with the word 0 at each of its places.
+fn with_words(base: &Pattern, at: usize) -> Vec<Pattern> {
+    let mut found = Vec::new();
+    for count in COUNTS {
+        let mut changed = *base;
+        changed.slots[at].words = [7, 8, 9, 7, 1, 2, 3, 65_535];
+        changed.slots[at].count = count;
+        found.push(changed);
+        for zero in 0..8 {
+            let mut holed = changed;
+            holed.slots[at].words[zero] = 0;
+            found.push(holed);
+        }
+    }
+    found
+}
+
+/// The pattern with every interesting gap before one slot.
+fn with_gaps(base: &Pattern, at: usize) -> Vec<Pattern> {
+    let ends = [0, 1, 2, 62, 63, 64, 255, 256, 65_535];
+    let pairs = ends.iter().flat_map(|low| ends.map(|high| (*low, high)));
+    let changed = pairs.map(|(low, high)| {
+        let mut changed = *base;
+        (changed.slots[at].low, changed.slots[at].high) = (low, high);
+        changed
+    });
+    changed.collect()
+}
+
+/// The pattern with every interesting pair of span limits.
+fn with_spans(base: &Pattern) -> Vec<Pattern> {
+    let ends = [0, 1, 2, 5, 19_999, 20_000, 20_001, 65_535];
+    let pairs = ends.iter().flat_map(|least| ends.map(|most| (*least, most)));
+    let changed = pairs.map(|(least, most)| Pattern { least, most, ..*base });
+    changed.collect()
+}
+
+/// Compares new patterns, and adding each number of words and each gap to patterns of each length.
+fn new_patterns(run: &mut Run) {
+    for least in [0, 1, 5, 20_000, 20_001, 65_535] {
+        for most in [0, 1, 20_000, 65_535] {
+            run.input();
+            let (library, brute) = (ffi::pattern_of(least, most), brute::pattern_of(least, most));
+            run.agree(&library, &brute, || format!("pattern_of {least} {most}"));
+            run.call(0);
+        }
+    }
+    for count in [0, 1, 7, 15, 16, 17, 65_536, usize::MAX] {
+        let mut pattern = pattern(ANY_SPAN, &sevens(16, 0, 1));
+        pattern.count = count;
+        for words in 0..=10 {
+            let zeros_last = [5, 5, 5, 5, 5, 5, 5, 0, 0, 0];
+            for (low, high) in [(0, 0), (0, 1), (63, 63), (63, 64), (1, 0)] {
+                run.input();
+                with_slot(run, &pattern, low, high, &[5; 10][..words]);
+                with_slot(run, &pattern, low, high, &zeros_last[10 - words..]);
+            }
+        }
+    }
+}
+
+/// Compares texts of lengths on both sides of the limit, and their check by length alone.
+fn texts(run: &mut Run) {
+    let accepted = pattern(ANY_SPAN, &sevens(3, 0, 1));
+    for length in [0, 1, 19_999, 20_000, 20_001, 65_535, 65_536, 65_537, 85_536] {
+        let mut text = vec![0; length];
+        text.iter_mut().step_by(997).for_each(|word| *word = 7);
+        text.iter_mut().skip(1).step_by(499).for_each(|word| *word = 7);
+        text.iter_mut().rev().take(4).for_each(|word| *word = 7);
+        compare(run, &accepted, &text);
+    }
+    for length in [0, 20_000, 20_001, 65_536, 1 << 32, (1 << 32) + 5, 1 << 63, usize::MAX] {
+        run.input();
+        check(run, &accepted, length);
+    }
+}
+
+/// Compares rows and marks of every length, for patterns of every number of slots.
+fn row_lengths(run: &mut Run) {
+    for slots in 1..=16 {
+        let pattern = pattern(ANY_SPAN, &sevens(slots, 0, 0));
+        let text = [7; 16];
+        let mut both = Both::new(run, Brute::enumerated(&pattern, &text));
+        for length in 0..=20 {
+            both.row(&(1..=length).collect::<Vec<u16>>());
+            both.searches(&vec![0; length as usize]);
+            both.searches(&vec![65_535; length as usize]);
+        }
+    }
+}
+
+/// Compares tallies just below 2^64, at it, and far past it.
+fn tallies(run: &mut Run) {
+    for parts in [1, 2, 8, 15, 16] {
+        for text in [one_below_power(parts), power(parts)] {
+            let pattern = sixteen_words();
+            let mut both = Both::new(run, Brute::windowed(&pattern, &text));
+            both.numbers();
+            both.all();
+        }
+    }
+    for (pattern, words) in thresholds() {
+        for words in [words - 2, words - 1, words, words + 1, 1_000] {
+            let text = vec![7; words];
+            let mut both = Both::new(run, Brute::windowed(&pattern, &text));
+            both.numbers();
+            both.lists();
+            both.all();
+        }
+    }
+}
+
+/// Compares clients and numbers served on both sides of their limits.
+fn clients(run: &mut Run) {
+    let accepted = pattern(ANY_SPAN, &sevens(2, 0, 1));
+    let nowhere = pattern(ANY_SPAN, &[(0, 0, &[5])]);
+    for client in [0, 1, 2, 3, 4, 5, 256, 65_537, (1 << 32) + 1, 1 << 63, usize::MAX] {
+        for served in [0, 1, 498, 499, 500, 501, 65_536, 1 << 32, 1 << 63, usize::MAX] {
+            let mut cursors = Cursors { served, ..Cursors::default() };
+            for (at, marks) in cursors.marks.iter_mut().enumerate() {
+                marks.places.fill(at as u16);
+            }
+            for pattern in [accepted, nowhere, brute::pattern_of(1, 1)] {
+                Both::new(run, Brute::enumerated(&pattern, &TEXT)).next(&cursors, client);
+            }
+            run.input();
+            rewind(run, &cursors, client);
+        }
+    }
+}

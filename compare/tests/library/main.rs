@@ -1,0 +1,70 @@
+//! Compares the library with the brute force, and counts what was compared.
+
+mod both;
+mod damage;
+mod desk;
+mod exhaustive;
+mod files;
+mod lent;
+mod limits;
+mod long;
+mod order;
+mod random;
+mod run;
+mod sheets;
+mod spellings;
+mod worked;
+
+use std::panic::{catch_unwind, AssertUnwindSafe};
+use std::process::ExitCode;
+use std::time::Instant;
+
+use run::Run;
+
+/// A group of cases, by its name.
+type Group = (&'static str, fn(&mut Run));
+
+/// All groups.
+const GROUPS: [Group; 10] = [
+    ("worked", worked::run),
+    ("exhaustive", exhaustive::run),
+    ("random", random::run),
+    ("limits", limits::run),
+    ("order", order::run),
+    ("sheets", sheets::run),
+    ("spellings", spellings::run),
+    ("damage", damage::run),
+    ("desk", desk::run),
+    ("long", long::run),
+];
+
+/// The fewest inputs that a whole run compares.
+const FEWEST_INPUTS: u64 = 100_000;
+
+/// Runs all groups, prints the counts, and fails if a group differed or a refusal never came up.
+fn main() -> ExitCode {
+    let mut run = Run::new();
+    let mut failed = Vec::new();
+    for (name, group) in GROUPS {
+        let begun = Instant::now();
+        run.begin(name);
+        if catch_unwind(AssertUnwindSafe(|| group(&mut run))).is_err() {
+            failed.push(name);
+        }
+        println!("{name}: {:.1} s", begun.elapsed().as_secs_f64());
+    }
+    run.print();
+    judge(&run, &failed)
+}
+
+/// Whether the run has compared what it must, without a difference.
+fn judge(run: &Run, failed: &[&str]) -> ExitCode {
+    let missing = run.missing();
+    let too_few = run.totals().0 < FEWEST_INPUTS;
+    if failed.is_empty() && missing.is_empty() && !too_few {
+        println!("library and brute force agree");
+        return ExitCode::SUCCESS;
+    }
+    println!("FAILED: groups {failed:?}, refusals never seen {missing:?}, too few inputs: {too_few}");
+    ExitCode::FAILURE
+}

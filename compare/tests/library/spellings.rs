@@ -1,0 +1,145 @@
+//! Names and numbers spelled rightly and wrongly, in every field of the files.
+
+use compare::cases::files::input;
+
+use crate::files::{count, read_pattern, read_text, report};
+use crate::run::Run;
+
+/// Numbers as they may and may not be spelled, some that look right when cut to fewer bits.
+const NUMBERS: [&str; 40] = [
+    "0",
+    "1",
+    "7",
+    "9",
+    "10",
+    "63",
+    "64",
+    "255",
+    "256",
+    "999",
+    "9999",
+    "20000",
+    "20001",
+    "65534",
+    "65535",
+    "65536",
+    "65543",
+    "65999",
+    "70000",
+    "99999",
+    "100007",
+    "131079",
+    "4294967303",
+    "18446744073709551623",
+    "340282366920938463463374607431768211463",
+    "",
+    "00",
+    "07",
+    "007",
+    "-0",
+    "+7",
+    "7.",
+    "7\r",
+    "\t7",
+    "0x7",
+    "7e0",
+    "7 ",
+    " 7",
+    "\u{0667}",
+    "7,7",
+];
+
+/// Lists of words as they may and may not be spelled.
+const WORDS: [&str; 14] =
+    ["7,8", "8,7,7", "7,0", "0,7", "7,", ",7", ",", ",,", "7,,8", "7, 8", "7 8", "7;8", "7,08", "7,65536"];
+
+/// Lines of names as they may and may not be spelled.
+const NAMES: [&str; 34] = [
+    "least most",
+    "most least",
+    "least",
+    "most",
+    "least least",
+    "most most",
+    "least most most",
+    "least  most",
+    " least most",
+    "least most ",
+    "least\tmost",
+    "least,most",
+    "Least most",
+    "least most\r",
+    "leastmost",
+    "",
+    " ",
+    "leas most",
+    "leastt most",
+    "low high words",
+    "words low high",
+    "high low words",
+    "low high",
+    "low high word",
+    "low low words",
+    "low high words words",
+    "low  high words",
+    "low high words ",
+    "word",
+    "words",
+    "Word",
+    "word ",
+    " word",
+    "wor",
+];
+
+/// Compares every spelling in every field.
+pub fn run(run: &mut Run) {
+    for number in NUMBERS {
+        pattern(run, &format!("least most\n{number} 20000\nlow high words\n0 0 7\n"));
+        pattern(run, &format!("most least\n{number} 1\nlow high words\n0 0 7\n"));
+        pattern(run, &format!("least most\n1 9\nlow high words\n0 0 7\n{number} 63 7\n"));
+        pattern(run, &format!("least most\n1 9\nlow words high\n0 7 0\n0 7 {number}\n"));
+        words(run, number);
+        text(run, &format!("word\n{number}\n"));
+        text(run, &format!("word\n7\n{number}\n7\n"));
+        text(run, &format!("word\n7\n{number}"));
+    }
+    for list in WORDS {
+        words(run, list);
+    }
+    for names in NAMES {
+        pattern(run, &format!("{names}\n1 9\nlow high words\n0 0 7\n"));
+        pattern(run, &format!("least most\n1 9\n{names}\n0 0 7\n"));
+        pattern(run, &format!("least most\n1 9\nlow high words\n{names}\n"));
+        pattern(run, names);
+        text(run, &format!("{names}\n7\n"));
+        text(run, names);
+    }
+}
+
+/// Compares pattern files with this field of words, in every place of its line.
+fn words(run: &mut Run, field: &str) {
+    let head = "least most\n1 9\n";
+    pattern(run, &format!("{head}low high words\n0 0 7\n0 1 {field}\n"));
+    pattern(run, &format!("{head}low words high\n0 {field} 0\n"));
+    pattern(run, &format!("{head}words low high\n{field} 0 0\n7 0 9\n"));
+}
+
+/// Compares every call on a pattern file.
+fn pattern(run: &mut Run, file: &str) {
+    let text = b"word\n7\n1\n7\n";
+    run.input();
+    read_pattern(run, file.as_bytes());
+    count(run, file.as_bytes(), text);
+    report(run, &input(file.as_bytes(), text));
+}
+
+/// Compares every call on a text file, with each number of words lent.
+fn text(run: &mut Run, file: &str) {
+    let pattern = b"least most\n1 9\nlow high words\n0 0 7\n0 1 7\n";
+    run.input();
+    for room in 0..=4 {
+        read_text(run, file.as_bytes(), room);
+    }
+    count(run, pattern, file.as_bytes());
+    report(run, &input(pattern, file.as_bytes()));
+}
