@@ -1,5 +1,7 @@
 ghost use mathlib.Core.Path.{_≡_};
 ghost use Prim.Native.Nat.{_+_, _-_, _^_, _<_, _≤_};
+ghost use lib.Dec.{ltb};
+ghost use Rattle.pattern.specs.Tests.{pick};
 ghost use Rattle.counting.specs.Numbers.{value};
 
 // A number below 2 ^ 128, in two halves.
@@ -28,6 +30,16 @@ pub(crate) fn add(a: Wide, b: Wide) -> Wide
     }
 }
 
+// 1 where x is below y, else 0.
+fn below(x: u64, y: u64) -> u64
+    ensures { λ r. ⌜ r ≡ pick (ltb x y) 1 0 ⌝ }
+{
+    if x < y {
+        return 1;
+    }
+    0
+}
+
 pub(crate) fn sub(a: Wide, b: Wide) -> Wide
     requires { ⌜ value b ≤ value a ⌝ }
     ensures { λ r. ⌜ value r ≡ value a - value b ⌝ }
@@ -35,15 +47,8 @@ pub(crate) fn sub(a: Wide, b: Wide) -> Wide
     let x = a.lo;
     let y = b.lo;
     let lo = std::num::wrapping_sub_u64(x, y);
-    if x < y {
-        Wide {
-            hi: a.hi - b.hi - 1,
-            lo,
-        }
-    } else {
-        Wide {
-            hi: a.hi - b.hi,
-            lo,
-        }
+    Wide {
+        hi: a.hi - b.hi - below(x, y),
+        lo,
     }
 }

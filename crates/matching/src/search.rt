@@ -8,10 +8,10 @@ ghost use Prim.Native.Nat.{_≤_};
 ghost use Rattle.matching.specs.Steps.Settling.{Ready, Placed, Settled, Started, Answered};
 ghost use Rattle.matching.specs.Steps.Turning.{seen};
 
-// Whether there is an occurrence, and its places, 0 past the pattern's slots.
+// The places of an occurrence, 0 past the pattern's slots, and whether there is one.
 pub struct Answer {
-    pub found: bool,
     pub places: [u16; 16],
+    pub found: bool,
 }
 
 // The earliest occurrence at or after the row `start`: the slots are visited in turn until none asks more of its place.

@@ -1,0 +1,192 @@
+//! The measured cases: a selection of texts, slots, gaps, spans and calls.
+
+use crate::calls::{by_hand, fail, library, room, Call};
+use crate::clock::{alone, rivals};
+use crate::netback::{netback, Visits};
+use crate::texts::{pattern, span_limits, text, Kind, Spans, WORDS};
+use compare::layout::Pattern;
+
+/// How long NetBack may take for one case.
+pub const LIMIT_MS: f64 = 2_000.0;
+
+/// A text, a pattern with gaps from 0 to `high`, and a call.
+#[derive(Clone, Copy)]
+pub struct Case {
+    pub kind: Kind,
+    pub slots: usize,
+    pub high: u16,
+    pub spans: Spans,
+    pub call: Call,
+}
+
+/// A case ready to run.
+pub struct Ready {
+    pub call: Call,
+    pub pattern: Pattern,
+    pub text: Vec<u16>,
+    pub list: Vec<u16>,
+}
+
+/// What NetBack did with a case: its rows, whether they are the front list, and its time.
+pub struct Rival {
+    pub rows: usize,
+    pub same: bool,
+    pub ms: f64,
+}
+
+/// NetBack as written and with one visit to a node; nothing where it took longer than its limit.
+pub struct Rivals {
+    pub any: Option<Rival>,
+    pub once: Option<Rival>,
+}
+
+/// What was measured of a case, in milliseconds; NetBack for the front list only.
+pub struct Measured {
+    pub case: Case,
+    pub value: Option<u64>,
+    pub library: f64,
+    pub by_hand: f64,
+    pub netback: Option<Rivals>,
+}
+
+impl Case {
+    /// Makes the case's pattern, text and list.
+    pub fn ready(&self, words: usize) -> Ready {
+        let text = text(self.kind, words);
+        let pattern = pattern(self.kind, self.spans, self.slots, self.high);
+        let list = room(self.call, &pattern, &text);
+        Ready {
+            call: self.call,
+            pattern,
+            text,
+            list,
+        }
+    }
+
+    /// The case in words.
+    pub fn describe(&self) -> String {
+        let (least, most) = span_limits(self.kind, self.spans, self.slots, self.high);
+        let Case {
+            kind,
+            slots,
+            high,
+            call,
+            ..
+        } = self;
+        format!("{kind} | {slots} | 0–{high} | {least}–{most} | {call}")
+    }
+
+    /// The case after the library's call, and the call's value; ends the run if by hand gives or writes anything else.
+    pub fn compared(&self, words: usize) -> (Ready, Option<u64>) {
+        let mut ready = self.ready(words);
+        let expected = ready.by_hand();
+        let written = ready.list.clone();
+        ready.list.fill(0);
+        let value = ready.library();
+        if value != expected || ready.list != written {
+            fail(&format!("library and by hand differ: {}", self.describe()));
+        }
+        (ready, value)
+    }
+
+    /// Compares the answers, then measures the library, the same by hand and, for the front list, NetBack.
+    pub fn measure(&self) -> Measured {
+        let (mut ready, value) = self.compared(WORDS);
+        let netback = (self.call == Call::Front).then(|| Rivals {
+            any: ready.netback(Visits::Any, value),
+            once: ready.netback(Visits::Once, value),
+        });
+        let Ready {
+            call,
+            pattern,
+            text,
+            list,
+        } = &mut ready;
+        let mut other = list.clone();
+        let (library, by_hand) = rivals(
+            || library(*call, pattern, text, list),
+            || by_hand(*call, pattern, text, &mut other),
+        );
+        Measured {
+            case: *self,
+            value,
+            library,
+            by_hand,
+            netback,
+        }
+    }
+}
+
+impl Ready {
+    /// The library's call.
+    pub fn library(&mut self) -> Option<u64> {
+        library(self.call, &self.pattern, &self.text, &mut self.list)
+    }
+
+    /// The same by hand.
+    pub fn by_hand(&mut self) -> Option<u64> {
+        by_hand(self.call, &self.pattern, &self.text, &mut self.list)
+    }
+
+    /// Runs NetBack within its limit, and compares its rows with the front list, which has so many and is written.
+    fn netback(&self, visits: Visits, front: Option<u64>) -> Option<Rival> {
+        let found = netback(&self.pattern, &self.text, visits, LIMIT_MS)?;
+        let rows = found.len() / self.pattern.count;
+        let same = front == Some(rows as u64) && self.list.starts_with(&found);
+        let ms = alone(|| netback(&self.pattern, &self.text, visits, LIMIT_MS));
+        Some(Rival { rows, same, ms })
+    }
+}
+
+/// The cases of one call: each kind of text with each of the slots and gaps, loose and tight.
+fn cross(call: Call, kinds: &[Kind], shapes: &[(usize, u16)]) -> Vec<Case> {
+    let mut cases = Vec::new();
+    for &kind in kinds {
+        for &(slots, high) in shapes {
+            for spans in [Spans::Loose, Spans::Tight] {
+                cases.push(Case {
+                    kind,
+                    slots,
+                    high,
+                    spans,
+                    call,
+                });
+            }
+        }
+    }
+    cases
+}
+
+/// The cases of the table, in its order.
+pub fn cases() -> Vec<Case> {
+    let kinds = [Kind::Random, Kind::Zipf, Kind::Equal];
+    let never = |kind, slots, high, call| Case {
+        kind,
+        slots,
+        high,
+        spans: Spans::Loose,
+        call,
+    };
+    let mut cases = cross(
+        Call::Front,
+        &kinds,
+        &[(2, 3), (8, 3), (16, 3), (4, 63), (16, 63)],
+    );
+    for kind in [Kind::Absent, Kind::OutOfReach] {
+        cases.push(never(kind, 4, 3, Call::Front));
+        cases.push(never(kind, 16, 63, Call::Front));
+    }
+    cases.extend(cross(Call::Back, &kinds, &[(8, 3), (16, 63)]));
+    cases.push(never(Kind::OutOfReach, 16, 63, Call::Back));
+    cases.extend(cross(Call::Count, &kinds, &[(8, 3)]));
+    cases.extend(cross(Call::Tally, &kinds, &[(2, 3), (8, 3), (16, 63)]));
+    cases.push(never(Kind::Absent, 16, 63, Call::Tally));
+    cases.push(Case {
+        spans: Spans::Nearly,
+        ..never(Kind::Equal, 16, 63, Call::Tally)
+    });
+    cases.extend(cross(Call::All, &kinds, &[(4, 3), (2, 63)]));
+    cases.extend(cross(Call::All, &[Kind::Random], &[(16, 3)]));
+    cases.push(never(Kind::Absent, 16, 63, Call::All));
+    cases
+}

@@ -1,0 +1,147 @@
+//! Whether the targets hold.
+
+use crate::calls::{fail, library, Call};
+use crate::cases::{Case, Measured, Rival, Rivals, LIMIT_MS};
+use crate::clock::rivals;
+use crate::texts::{Kind, Spans, WORDS};
+
+/// A measured figure, and the case it belongs to.
+type Figure = (f64, Case);
+
+/// What a figure may be.
+enum Limit {
+    AtMost(f64),
+    AtLeast(f64),
+}
+
+impl Limit {
+    /// Whether the figure keeps to the limit.
+    fn allows(&self, figure: f64) -> bool {
+        match *self {
+            Limit::AtMost(most) => figure <= most,
+            Limit::AtLeast(least) => least <= figure,
+        }
+    }
+
+    /// The figure that comes nearest to breaking the limit, or breaks it most.
+    fn worst(&self, figures: &[Figure]) -> f64 {
+        let figures = figures.iter().map(|(figure, _)| *figure);
+        match self {
+            Limit::AtMost(_) => figures.fold(f64::MIN, f64::max),
+            Limit::AtLeast(_) => figures.fold(f64::MAX, f64::min),
+        }
+    }
+}
+
+/// Prints a target with its worst figure, and the cases that miss it.
+fn verdict(target: &str, limit: Limit, figures: Vec<Figure>) {
+    let misses = figures.iter().filter(|(figure, _)| !limit.allows(*figure));
+    let word = if misses.clone().count() == 0 {
+        "holds"
+    } else {
+        "missed"
+    };
+    println!(
+        "- {target}: {word}, worst {:.2} of {} cases.",
+        limit.worst(&figures),
+        figures.len()
+    );
+    for (figure, case) in misses {
+        println!("  - {}: {figure:.2}", case.describe().replace(" |", ","));
+    }
+}
+
+/// How many times as long as by hand each call takes.
+fn against_hand(all: &[Measured]) -> Vec<Figure> {
+    all.iter()
+        .map(|m| (m.library / m.by_hand, m.case))
+        .collect()
+}
+
+/// How many times as long as the front list one of NetBack's two forms takes, at least; past its limit it counts with the limit.
+fn against_netback(all: &[Measured], form: fn(&Rivals) -> &Option<Rival>) -> Vec<Figure> {
+    let times = |m: &Measured| {
+        let rival = form(m.netback.as_ref()?);
+        let ms = rival.as_ref().map_or(LIMIT_MS, |rival| rival.ms);
+        Some((ms / m.library, m.case))
+    };
+    all.iter().filter_map(times).collect()
+}
+
+/// How many times as long as the count alone the front list takes, into a list with room for any rows.
+fn against_count() -> Vec<Figure> {
+    let mut figures = Vec::new();
+    for (kind, slots, high) in [
+        (Kind::Random, 8, 3),
+        (Kind::Zipf, 4, 63),
+        (Kind::Equal, 2, 3),
+        (Kind::Equal, 16, 63),
+    ] {
+        for spans in [Spans::Loose, Spans::Tight] {
+            let case = Case {
+                kind,
+                slots,
+                high,
+                spans,
+                call: Call::Front,
+            };
+            let (mut ready, rows) = case.compared(WORDS);
+            let (pattern, text) = (ready.pattern, ready.text.clone());
+            let count = || library(Call::Count, &pattern, &text, &mut []);
+            if count() != rows {
+                fail(&format!("list and count differ: {}", case.describe()));
+            }
+            let (front, count) = rivals(|| ready.library(), count);
+            figures.push((front / count, case));
+        }
+    }
+    figures
+}
+
+/// The milliseconds of the tally with 16 slots, gaps 0 to 63 and spans that bind.
+fn tally_times(all: &[Measured]) -> Vec<Figure> {
+    let binds = |m: &&Measured| {
+        let Case {
+            slots,
+            high,
+            spans,
+            call,
+            ..
+        } = m.case;
+        call == Call::Tally && slots == 16 && high == 63 && spans != Spans::Loose
+    };
+    all.iter()
+        .filter(binds)
+        .map(|m| (m.library, m.case))
+        .collect()
+}
+
+/// Prints which targets hold, and what misses the others.
+pub fn print(all: &[Measured]) {
+    println!("\nTargets:\n");
+    verdict(
+        "No call takes more than 1.5 times as long as by hand",
+        Limit::AtMost(1.5),
+        against_hand(all),
+    );
+    verdict(
+        "The front list is at least 5 times as fast as NetBack",
+        Limit::AtLeast(5.0),
+        against_netback(all, |rivals| &rivals.any),
+    );
+    verdict(
+        "The same, NetBack with one visit to a node",
+        Limit::AtLeast(5.0),
+        against_netback(all, |rivals| &rivals.once),
+    );
+    verdict(
+        "The front list, into a list with room for any rows, takes at most 1.15 times as long as the count",
+        Limit::AtMost(1.15),
+        against_count(),
+    );
+    verdict(
+        "The tally with 16 slots, gaps 0–63 and spans that bind takes at most 500 ms",
+        Limit::AtMost(500.0),
+        tally_times(all),
+    );
+}

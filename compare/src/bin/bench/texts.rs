@@ -1,0 +1,110 @@
+//! The texts and patterns that are measured.
+
+use compare::ffi;
+use compare::layout::Pattern;
+use compare::rng::Rng;
+use std::fmt;
+
+/// How many words a text has, if nothing else is said.
+pub const WORDS: usize = 20_000;
+
+/// How many words the Zipf-like text draws from.
+const VOCABULARY: usize = 2_000;
+
+/// What kind of text, and of pattern for it.
+#[derive(Clone, Copy, PartialEq)]
+pub enum Kind {
+    /// Random over four words; each slot takes one of them.
+    Random,
+    /// Word k about as often as 1/k, with sentence ends; each slot takes two of the frequent words.
+    Zipf,
+    /// One word over and over.
+    Equal,
+    /// Random over four words; the last slot's word is not in the text.
+    Absent,
+    /// One word over and over; the gaps do not reach as far as the least span.
+    OutOfReach,
+}
+
+/// What the span limits are.
+#[derive(Clone, Copy, PartialEq)]
+pub enum Spans {
+    /// 1 to 20,000: they leave nothing out.
+    Loose,
+    /// About a third to a half of what the gaps allow.
+    Tight,
+    /// 1 to one less than the gaps allow.
+    Nearly,
+}
+
+impl fmt::Display for Kind {
+    fn fmt(&self, out: &mut fmt::Formatter) -> fmt::Result {
+        out.write_str(match self {
+            Kind::Random => "four words",
+            Kind::Zipf => "Zipf",
+            Kind::Equal => "all equal",
+            Kind::Absent => "never: word",
+            Kind::OutOfReach => "never: span",
+        })
+    }
+}
+
+/// The Zipf-like text: weights 1/k, drawn by their running sums.
+fn zipf(rng: &mut Rng, words: usize) -> Vec<u16> {
+    let mut sums = vec![0];
+    for k in 1..=VOCABULARY {
+        sums.push(sums[k - 1] + 1_000_000 / k);
+    }
+    let draw = |_| {
+        if rng.once_in(20) {
+            return 0;
+        }
+        let drawn = rng.within(0, sums[VOCABULARY] - 1);
+        sums.partition_point(|&sum| sum <= drawn) as u16
+    };
+    (0..words).map(draw).collect()
+}
+
+/// A text of that kind.
+pub fn text(kind: Kind, words: usize) -> Vec<u16> {
+    let mut rng = Rng::new(words as u64);
+    match kind {
+        Kind::Random | Kind::Absent => (0..words).map(|_| rng.word(1, 4)).collect(),
+        Kind::Zipf => zipf(&mut rng, words),
+        Kind::Equal | Kind::OutOfReach => vec![7; words],
+    }
+}
+
+/// The words that slot j of so many takes.
+fn slot_words(kind: Kind, slots: usize, j: usize) -> Vec<u16> {
+    let k = j as u16;
+    match kind {
+        Kind::Absent if j + 1 == slots => vec![5],
+        Kind::Random | Kind::Absent => vec![1 + k % 4],
+        Kind::Zipf => vec![1 + k % 3, 4 + k % 5],
+        Kind::Equal | Kind::OutOfReach => vec![7],
+    }
+}
+
+/// The span limits for so many slots with gaps from 0 to `high`.
+pub fn span_limits(kind: Kind, spans: Spans, slots: usize, high: u16) -> (u16, u16) {
+    let slots = slots as u16;
+    let slack = (slots - 1) * high;
+    if kind == Kind::OutOfReach {
+        return (slots + slack + 1, 20_000);
+    }
+    match spans {
+        Spans::Loose => (1, 20_000),
+        Spans::Tight => (slots + slack / 3, slots + slack / 2),
+        Spans::Nearly => (1, slots + slack - 1),
+    }
+}
+
+/// A pattern for a text of that kind, with gaps from 0 to `high`.
+pub fn pattern(kind: Kind, spans: Spans, slots: usize, high: u16) -> Pattern {
+    let (least, most) = span_limits(kind, spans, slots, high);
+    (0..slots).fold(ffi::pattern_of(least, most), |pattern, j| {
+        let high = if j == 0 { 0 } else { high };
+        ffi::with_slot(&pattern, 0, high, &slot_words(kind, slots, j)).pattern
+    })
+}
