@@ -19,16 +19,9 @@ fn settle(pattern: &Pattern, text: &[u16], row: &mut [usize]) -> bool {
     let mut j = 0;
     while calm <= last {
         let slot = &slots[j];
-        let behind = if j == 0 {
-            (row[last] + 1).saturating_sub(most)
-        } else {
-            row[j - 1] + slot.low as usize + 1
-        };
-        let ahead = if j == last {
-            row[0] + least - 1
-        } else {
-            row[j + 1].saturating_sub(slots[j + 1].high as usize + 1)
-        };
+        let behind = if j == 0 { (row[last] + 1).saturating_sub(most) } else { row[j - 1] + slot.low as usize + 1 };
+        let ahead =
+            if j == last { row[0] + least - 1 } else { row[j + 1].saturating_sub(slots[j + 1].high as usize + 1) };
         let from = row[j].max(behind).max(ahead);
         let Some(place) = first(slot, text, from) else {
             return false;

@@ -60,11 +60,7 @@ impl<'a> Input<'a> {
 
     /// The whole text as one window.
     fn whole(&self) -> Window {
-        Window {
-            start: 0,
-            widths: vec![self.words; self.slots.len()],
-            from: 0,
-        }
+        Window { start: 0, widths: vec![self.words; self.slots.len()], from: 0 }
     }
 
     /// Hands over a window for each first place, with the places that a row from there can have.
@@ -94,10 +90,7 @@ impl<'a> Input<'a> {
         }
         for j in (0..last).rev() {
             swap(sums, next);
-            let (low, high) = (
-                self.slots[j + 1].low as usize,
-                self.slots[j + 1].high as usize,
-            );
+            let (low, high) = (self.slots[j + 1].low as usize, self.slots[j + 1].high as usize);
             let beyond = width;
             width = window.widths[j];
             let takes = &self.takes[j][start..start + width];
@@ -177,11 +170,7 @@ impl Walk<'_> {
                 self.written += count;
             } else {
                 let slot = &self.slots[j + 1];
-                self.go(
-                    j + 1,
-                    index + slot.low as usize + 1,
-                    index + slot.high as usize + 1,
-                );
+                self.go(j + 1, index + slot.low as usize + 1, index + slot.high as usize + 1);
             }
             index = table[j][index + 1] as usize;
         }
@@ -205,14 +194,7 @@ pub fn all(pattern: &Pattern, text: &[u16], list: &mut [u16]) -> Option<u64> {
     let mut put = |window: &Window, to: usize| {
         input.tabulate(window, &mut table);
         let (slots, table, start) = (input.slots, &table, window.start);
-        let mut walk = Walk {
-            slots,
-            table,
-            start,
-            row: [0; 16],
-            list: &mut *list,
-            written,
-        };
+        let mut walk = Walk { slots, table, start, row: [0; 16], list: &mut *list, written };
         walk.go(0, 0, to);
         written = walk.written;
     };

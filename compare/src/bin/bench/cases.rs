@@ -55,24 +55,13 @@ impl Case {
         let text = text(self.kind, words);
         let pattern = pattern(self.kind, self.spans, self.slots, self.high);
         let list = room(self.call, &pattern, &text);
-        Ready {
-            call: self.call,
-            pattern,
-            text,
-            list,
-        }
+        Ready { call: self.call, pattern, text, list }
     }
 
     /// The case in words.
     pub fn describe(&self) -> String {
         let (least, most) = span_limits(self.kind, self.spans, self.slots, self.high);
-        let Case {
-            kind,
-            slots,
-            high,
-            call,
-            ..
-        } = self;
+        let Case { kind, slots, high, call, .. } = self;
         format!("{kind} | {slots} | 0–{high} | {least}–{most} | {call}")
     }
 
@@ -92,28 +81,13 @@ impl Case {
     /// Compares the answers, then measures the library, the same by hand and, for the front list, NetBack.
     pub fn measure(&self) -> Measured {
         let (mut ready, value) = self.compared(WORDS);
-        let netback = (self.call == Call::Front).then(|| Rivals {
-            any: ready.netback(Visits::Any, value),
-            once: ready.netback(Visits::Once, value),
-        });
-        let Ready {
-            call,
-            pattern,
-            text,
-            list,
-        } = &mut ready;
+        let netback = (self.call == Call::Front)
+            .then(|| Rivals { any: ready.netback(Visits::Any, value), once: ready.netback(Visits::Once, value) });
+        let Ready { call, pattern, text, list } = &mut ready;
         let mut other = list.clone();
-        let (library, by_hand) = rivals(
-            || library(*call, pattern, text, list),
-            || by_hand(*call, pattern, text, &mut other),
-        );
-        Measured {
-            case: *self,
-            value,
-            library,
-            by_hand,
-            netback,
-        }
+        let (library, by_hand) =
+            rivals(|| library(*call, pattern, text, list), || by_hand(*call, pattern, text, &mut other));
+        Measured { case: *self, value, library, by_hand, netback }
     }
 }
 
@@ -144,13 +118,7 @@ fn cross(call: Call, kinds: &[Kind], shapes: &[(usize, u16)]) -> Vec<Case> {
     for &kind in kinds {
         for &(slots, high) in shapes {
             for spans in [Spans::Loose, Spans::Tight] {
-                cases.push(Case {
-                    kind,
-                    slots,
-                    high,
-                    spans,
-                    call,
-                });
+                cases.push(Case { kind, slots, high, spans, call });
             }
         }
     }
@@ -160,18 +128,8 @@ fn cross(call: Call, kinds: &[Kind], shapes: &[(usize, u16)]) -> Vec<Case> {
 /// The cases of the table, in its order.
 pub fn cases() -> Vec<Case> {
     let kinds = [Kind::Random, Kind::Zipf, Kind::Equal];
-    let never = |kind, slots, high, call| Case {
-        kind,
-        slots,
-        high,
-        spans: Spans::Loose,
-        call,
-    };
-    let mut cases = cross(
-        Call::Front,
-        &kinds,
-        &[(2, 3), (8, 3), (16, 3), (4, 63), (16, 63)],
-    );
+    let never = |kind, slots, high, call| Case { kind, slots, high, spans: Spans::Loose, call };
+    let mut cases = cross(Call::Front, &kinds, &[(2, 3), (8, 3), (16, 3), (4, 63), (16, 63)]);
     for kind in [Kind::Absent, Kind::OutOfReach] {
         cases.push(never(kind, 4, 3, Call::Front));
         cases.push(never(kind, 16, 63, Call::Front));
@@ -181,10 +139,7 @@ pub fn cases() -> Vec<Case> {
     cases.extend(cross(Call::Count, &kinds, &[(8, 3)]));
     cases.extend(cross(Call::Tally, &kinds, &[(2, 3), (8, 3), (16, 63)]));
     cases.push(never(Kind::Absent, 16, 63, Call::Tally));
-    cases.push(Case {
-        spans: Spans::Nearly,
-        ..never(Kind::Equal, 16, 63, Call::Tally)
-    });
+    cases.push(Case { spans: Spans::Nearly, ..never(Kind::Equal, 16, 63, Call::Tally) });
     cases.extend(cross(Call::All, &kinds, &[(4, 3), (2, 63)]));
     cases.extend(cross(Call::All, &[Kind::Random], &[(16, 3)]));
     cases.push(never(Kind::Absent, 16, 63, Call::All));

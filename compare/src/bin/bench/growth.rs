@@ -23,13 +23,7 @@ fn time(case: Case, words: usize) -> f64 {
 fn line(varied: &str, kind: Kind, words: usize, high: u16, slots: impl Fn(usize) -> usize) {
     print!("| {varied} |");
     for (_, call, spans, most) in CALLS {
-        let case = Case {
-            kind,
-            slots: slots(most),
-            high,
-            spans,
-            call,
-        };
+        let case = Case { kind, slots: slots(most), high, spans, call };
         print!(" {:.3} |", time(case, words));
     }
     println!();
@@ -48,10 +42,7 @@ fn head(title: &str, varied: &str) {
 /// Prints the three tables of growth.
 pub fn print() {
     let kind = Kind::Random;
-    head(
-        "Library ms by text length (four words, 8 slots, gaps 0–3):",
-        "words",
-    );
+    head("Library ms by text length (four words, 8 slots, gaps 0–3):", "words");
     for words in [1_250, 2_500, 5_000, 10_000, WORDS] {
         line(&words.to_string(), kind, words, 3, |_| 8);
     }
@@ -59,10 +50,7 @@ pub fn print() {
     for slots in [2, 4, 8, 16] {
         line(&slots.to_string(), kind, WORDS, 3, |_| slots);
     }
-    head(
-        "Library ms by gap (four words, 16 slots, but 3 for \"all\"):",
-        "gaps",
-    );
+    head("Library ms by gap (four words, 16 slots, but 3 for \"all\"):", "gaps");
     for high in [3, 7, 15, 31, 63] {
         line(&format!("0–{high}"), kind, WORDS, high, |most| most);
     }

@@ -40,19 +40,10 @@ fn netback_cells(measured: &Measured) -> String {
 
 /// A line of the table.
 fn line(number: usize, measured: &Measured) -> String {
-    let Measured {
-        case,
-        value,
-        library,
-        by_hand,
-        ..
-    } = measured;
+    let Measured { case, value, library, by_hand, .. } = measured;
     let value = value.map_or("over 2^64 − 1".to_string(), |value| value.to_string());
     let ratio = library / by_hand;
-    let cells = format!(
-        "| {number} | {} | {value} | {library:.3} | {by_hand:.3} | {ratio:.2} |",
-        case.describe()
-    );
+    let cells = format!("| {number} | {} | {value} | {library:.3} | {by_hand:.3} | {ratio:.2} |", case.describe());
     format!("{cells} {}", netback_cells(measured))
 }
 
@@ -70,8 +61,7 @@ fn measure_all() {
     if overflow_checked() {
         println!("By hand and NetBack were built with overflow checks, the library has none.\n");
     }
-    let known =
-        "case | text | slots | gaps | spans | call | rows or total | library | by hand | ratio";
+    let known = "case | text | slots | gaps | spans | call | rows or total | library | by hand | ratio";
     println!("| {known} | NetBack | times | NetBack, one visit | times |");
     println!("|{}", "---|".repeat(14));
     let mut all = Vec::new();
@@ -93,8 +83,7 @@ fn run_one(case: &str, who: &str, runs: &str) -> Option<()> {
         black_box(match who {
             "library" => ready.library(),
             "hand" => ready.by_hand(),
-            "netback" => netback(&ready.pattern, &ready.text, Visits::Any, LIMIT_MS)
-                .map(|rows| rows.len() as u64),
+            "netback" => netback(&ready.pattern, &ready.text, Visits::Any, LIMIT_MS).map(|rows| rows.len() as u64),
             _ => return None,
         });
     }

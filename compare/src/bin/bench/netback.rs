@@ -51,31 +51,15 @@ fn takes(slot: &Slot, word: u16) -> bool {
 /// A node that is linked to none yet.
 fn node(place: usize) -> Node {
     let (min_root, min_leaf) = (usize::MAX, usize::MAX);
-    Node {
-        place,
-        first_link: 0,
-        end_link: 0,
-        min_root,
-        max_root: 0,
-        min_leaf,
-        max_leaf: 0,
-    }
+    Node { place, first_link: 0, end_link: 0, min_root, max_root: 0, min_leaf, max_leaf: 0 }
 }
 
 /// The roots: every place whose word the first slot takes.
 fn roots(slot: &Slot, text: &[u16]) -> Level {
     let mut level = Level::default();
-    for (i, _) in text
-        .iter()
-        .enumerate()
-        .filter(|(_, &word)| takes(slot, word))
-    {
+    for (i, _) in text.iter().enumerate().filter(|(_, &word)| takes(slot, word)) {
         let place = i + 1;
-        level.nodes.push(Node {
-            min_root: place,
-            max_root: place,
-            ..node(place)
-        });
+        level.nodes.push(Node { min_root: place, max_root: place, ..node(place) });
     }
     level
 }
@@ -85,11 +69,7 @@ fn below(slot: &Slot, text: &[u16], parents: &[Node]) -> Level {
     let (low, high) = (slot.low as usize, slot.high as usize);
     let mut level = Level::default();
     let mut oldest = 0;
-    for (i, _) in text
-        .iter()
-        .enumerate()
-        .filter(|(_, &word)| takes(slot, word))
-    {
+    for (i, _) in text.iter().enumerate().filter(|(_, &word)| takes(slot, word)) {
         let place = i + 1;
         while oldest < parents.len() && parents[oldest].place + high + 1 < place {
             oldest += 1;
@@ -151,13 +131,7 @@ impl NetTree {
             spread_leaves(&mut above[j - 1], &here[0]);
         }
         let (least, most) = (pattern.least as usize, pattern.most as usize);
-        let mut tree = NetTree {
-            levels,
-            least,
-            most,
-            removed: vec![0; slots.len()],
-            visits,
-        };
+        let mut tree = NetTree { levels, least, most, removed: vec![0; slots.len()], visits };
         tree.mark_useless();
         tree
     }
@@ -187,11 +161,7 @@ impl NetTree {
 
     /// Seeks the leftmost path from the path's root (Algorithm 2): whether there is one, or nothing past the time limit.
     fn backtrack(&mut self, path: &mut [usize], links: &mut [usize], end_ms: f64) -> Option<bool> {
-        let Node {
-            place: root,
-            first_link,
-            ..
-        } = self.levels[0].nodes[path[0]];
+        let Node { place: root, first_link, .. } = self.levels[0].nodes[path[0]];
         links[0] = first_link;
         let mut level = 0;
         let mut steps = 0;
@@ -199,9 +169,7 @@ impl NetTree {
             let here = &self.levels[level];
             let below = &self.levels[level + 1].nodes;
             let left = &here.links[links[level]..here.nodes[path[level]].end_link];
-            let found = left
-                .iter()
-                .position(|&i| self.usable(level + 1, &below[i as usize], root));
+            let found = left.iter().position(|&i| self.usable(level + 1, &below[i as usize], root));
             if let Some(skipped) = found {
                 let child = left[skipped] as usize;
                 links[level] += skipped + 1;
@@ -232,9 +200,7 @@ impl NetTree {
         for root in 0..self.levels[0].nodes.len() {
             let node = &self.levels[0].nodes[root];
             path[0] = root;
-            if !self.usable(0, node, node.place)
-                || !self.backtrack(&mut path, &mut links, end_ms)?
-            {
+            if !self.usable(0, node, node.place) || !self.backtrack(&mut path, &mut links, end_ms)? {
                 continue;
             }
             for (level, &i) in path.iter().enumerate() {

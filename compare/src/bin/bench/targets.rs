@@ -36,16 +36,8 @@ impl Limit {
 /// Prints a target with its worst figure, and the cases that miss it.
 fn verdict(target: &str, limit: Limit, figures: Vec<Figure>) {
     let misses = figures.iter().filter(|(figure, _)| !limit.allows(*figure));
-    let word = if misses.clone().count() == 0 {
-        "holds"
-    } else {
-        "missed"
-    };
-    println!(
-        "- {target}: {word}, worst {:.2} of {} cases.",
-        limit.worst(&figures),
-        figures.len()
-    );
+    let word = if misses.clone().count() == 0 { "holds" } else { "missed" };
+    println!("- {target}: {word}, worst {:.2} of {} cases.", limit.worst(&figures), figures.len());
     for (figure, case) in misses {
         println!("  - {}: {figure:.2}", case.describe().replace(" |", ","));
     }
@@ -53,9 +45,7 @@ fn verdict(target: &str, limit: Limit, figures: Vec<Figure>) {
 
 /// How many times as long as by hand each call takes.
 fn against_hand(all: &[Measured]) -> Vec<Figure> {
-    all.iter()
-        .map(|m| (m.library / m.by_hand, m.case))
-        .collect()
+    all.iter().map(|m| (m.library / m.by_hand, m.case)).collect()
 }
 
 /// How many times as long as the front list one of NetBack's two forms takes, at least; past its limit it counts with the limit.
@@ -71,20 +61,9 @@ fn against_netback(all: &[Measured], form: fn(&Rivals) -> &Option<Rival>) -> Vec
 /// How many times as long as the count alone the front list takes, into a list with room for any rows.
 fn against_count() -> Vec<Figure> {
     let mut figures = Vec::new();
-    for (kind, slots, high) in [
-        (Kind::Random, 8, 3),
-        (Kind::Zipf, 4, 63),
-        (Kind::Equal, 2, 3),
-        (Kind::Equal, 16, 63),
-    ] {
+    for (kind, slots, high) in [(Kind::Random, 8, 3), (Kind::Zipf, 4, 63), (Kind::Equal, 2, 3), (Kind::Equal, 16, 63)] {
         for spans in [Spans::Loose, Spans::Tight] {
-            let case = Case {
-                kind,
-                slots,
-                high,
-                spans,
-                call: Call::Front,
-            };
+            let case = Case { kind, slots, high, spans, call: Call::Front };
             let (mut ready, rows) = case.compared(WORDS);
             let (pattern, text) = (ready.pattern, ready.text.clone());
             let count = || library(Call::Count, &pattern, &text, &mut []);
@@ -101,29 +80,16 @@ fn against_count() -> Vec<Figure> {
 /// The milliseconds of the tally with 16 slots, gaps 0 to 63 and spans that bind.
 fn tally_times(all: &[Measured]) -> Vec<Figure> {
     let binds = |m: &&Measured| {
-        let Case {
-            slots,
-            high,
-            spans,
-            call,
-            ..
-        } = m.case;
+        let Case { slots, high, spans, call, .. } = m.case;
         call == Call::Tally && slots == 16 && high == 63 && spans != Spans::Loose
     };
-    all.iter()
-        .filter(binds)
-        .map(|m| (m.library, m.case))
-        .collect()
+    all.iter().filter(binds).map(|m| (m.library, m.case)).collect()
 }
 
 /// Prints which targets hold, and what misses the others.
 pub fn print(all: &[Measured]) {
     println!("\nTargets:\n");
-    verdict(
-        "No call takes more than 1.5 times as long as by hand",
-        Limit::AtMost(1.5),
-        against_hand(all),
-    );
+    verdict("No call takes more than 1.5 times as long as by hand", Limit::AtMost(1.5), against_hand(all));
     verdict(
         "The front list is at least 5 times as fast as NetBack",
         Limit::AtLeast(5.0),
