@@ -4,14 +4,11 @@ use native.Mathlib.Nat.{add-mul, mul-le-mul, mul-le-mul-right}
 use native.Mathlib.Numerals.{add-one}
 use native.Mathlib.Omega.{arith}
 use mathlib.Core.Path.{_≡_, refl, sym, ap, _∙_}
-use mathlib.Core.List.{List, [], _∷_, _++_, map, append-assoc, append-nil}
-use lib.ListN.{length, getD, take, drop, set, replicate, length-map, length-append, length-set, length-drop, drop-of-length-le}
-use lib.Seq.{paste, take-suc-set, take-take, take-all, drop-drop, getD-set-same, getD-set-other}
+use mathlib.Core.List.{List, [], _∷_, _++_, map, append-assoc}
+use lib.ListN.{length, getD, take, set, replicate, length-map, length-append, length-set}
+use lib.Seq.{paste, take-suc-set, take-set-le, take-take, getD-set-same, getD-set-other}
 use borrow.Author.Count.{below-more}
-use borrow.Author.Tests.{le-ltb}
-use borrow.Rule.Slice.PartMut.{putMid}
 use Rattle.pattern.specs.declared.Pattern.{Pattern}
-use Rattle.matching.specs.Written.{rowOver}
 use Rattle.counting.specs.Tables.{Next}
 use Rattle.counting.specs.Walks.{run, put, Bounds, Walk, Walked}
 use Rattle.counting.specs.Laws.Runs.{run-none, run-skip, run-more, run-part, put-append}
@@ -38,26 +35,6 @@ bounding-more {j = j} {b} s h few {v} e =
 pub bounded : {f : Pattern} {of : ℕ → ℕ} {j : ℕ} {b : List ℕ} → Bounding f of j b → f .count ≤ j → Bounds f of b
 bounded s h = record { long = s .long; bound = λ k x. s .bound k (omega arith) }
 
--- ---- a row put into the part of a list that begins at a row's place
-
-module _ (xs : List ℕ) (at : ℕ) (inside : at ≤ length xs) where
-  tail-is : take (length xs - at) (drop at xs) ≡ drop at xs
-  tail-is = take-all (length xs - at) (drop at xs) (omega (arith, length-drop at xs))
-
-  after-none : drop (length xs - at) (drop at xs) ≡ []
-  after-none = drop-of-length-le (drop at xs) {i = length xs - at} (omega (arith, length-drop at xs))
-
-  mid-is : (ys : List ℕ) → putMid at (length xs - at) xs ys ≡ take at xs ++ ys
-  mid-is ys = ap (λ (r : List ℕ). take at xs ++ (ys ++ r)) after-none ∙ ap (λ (r : List ℕ). take at xs ++ r) (append-nil ys)
-
-  pub pasted : (row ys : List ℕ) (n : ℕ) → n ≤ 16 → at + n ≤ length xs → ys ≡ rowOver n row (take (length xs - at) (drop at xs)) → putMid at (length xs - at) xs ys ≡ paste xs at row n
-  pasted row ys n few room e =
-      let long : length (drop at xs) ≡ length xs - at = length-drop at xs in
-      let over : rowOver n row (drop at xs) ≡ take n row ++ drop n (drop at xs) = rw (le-ltb 16 n few, le-ltb (length (drop at xs)) n (omega arith)) in
-      mid-is ys
-      ∙ ap (λ (r : List ℕ). take at xs ++ r) (e ∙ ap (rowOver n row) tail-is ∙ over ∙ ap (λ (r : List ℕ). take n row ++ r) (drop-drop n at xs))
-      ∙ sym (append-assoc (take at xs) (take n row) (drop (at + n) xs))
-
 -- ---- rows with the same places before them
 
 map-append : {A : Type 0} (h : A → A) (R S : List A) → map h (R ++ S) ≡ map h R ++ map h S
@@ -68,8 +45,33 @@ prefixed : (a : List ℕ) (p : ℕ) (R : List (List ℕ)) → map (λ s. a ++ s)
 prefixed a p [] = refl
 prefixed a p (r ∷ R) = rw (prefixed a p R) (ap (λ (s : List ℕ). s ∷ map (λ s. (a ++ (p ∷ [])) ++ s) R) (sym (append-assoc a (p ∷ []) r)))
 
-one-more : (row : List ℕ) (j p : ℕ) → j < length row → take (j + 1) (set row j p) ≡ take j row ++ (p ∷ [])
-one-more row j p h = rw add-one (take-suc-set row j p h)
+-- ---- the row that is lent down the slots: its places before slot j stay
+
+pub record Lent (j : ℕ) (row row′ : List ℕ) : Type 0 where
+  pub long : length row′ ≡ 16
+  pub front : take j row′ ≡ take j row
+
+pub lent-begin : {j : ℕ} {row : List ℕ} → length row ≡ 16 → Lent j row row
+lent-begin h = record { long = h; front = refl }
+
+module _ {j : ℕ} {row row′ : List ℕ} (s : Lent j row row′) (p : ℕ) where
+  pub lent-set : Lent j row (set row′ j p)
+  lent-set = record { long = simp length-set (s .long); front = take-set-le j row′ j p (omega arith) ∙ s .front }
+
+  -- the next slot's walk keeps one place more
+  pub lent-back : {row″ : List ℕ} → length row″ ≡ length (set row′ j p) → take (j + 1) row″ ≡ take (j + 1) (set row′ j p) → Lent j row row″
+  lent-back {row″} same e =
+      record {
+        long = same ∙ lent-set .long;
+        front =
+            sym (take-take j (j + 1) row″ (omega arith))
+            ∙ ap (take j) e
+            ∙ take-take j (j + 1) (set row′ j p) (omega arith)
+            ∙ lent-set .front;
+      }
+
+  one-more : j < 16 → take (j + 1) (set row′ j p) ≡ take j row ++ (p ∷ [])
+  one-more h = let l = s .long in rw (add-one, ← s .front) (take-suc-set row′ j p (omega arith))
 
 module _ {m first : ℕ} {low high N : List ℕ} {j x y done space : ℕ} where
   -- the next index to visit is q
@@ -171,23 +173,26 @@ module _ {m first : ℕ} {low high N : List ℕ} {j x y done space : ℕ} where
                   ∙ ap (λ (T : List (List ℕ)). put m done T l) (sym (map-append pre R S) ∙ ap (map pre) (sym u));
             }
 
-        module _ (long : j < length row) {places : List ℕ} (es : places ≡ set row j (first + q + 1)) where
-          pub going-leaf : j + 1 ≡ m → {l″ : List ℕ} → l″ ≡ paste l′ (rows * m) places m → Going w row l v (rows + 1) l″
+        module _ {row′ : List ℕ} (s : Lent j row row′) where
+          longer : take (j + 1) (set row′ j (first + q + 1)) ≡ take j row ++ ((first + q + 1) ∷ [])
+          longer = let slot = w .slot in let few = w .leads .few in one-more s (first + q + 1) (omega arith)
+
+          pub going-leaf : j + 1 ≡ m → {l″ : List ℕ} → l″ ≡ paste l′ (rows * m) (set row′ j (first + q + 1)) m → Going w row l v (rows + 1) l″
           unfolding put
           going-leaf last el =
               let one : w .rows j q ≡ ((first + q + 1) ∷ []) ∷ [] = w .leads .last j last q (going-in .1) in
-              let pre : take m places ≡ take j row ++ ((first + q + 1) ∷ []) = rw (es, ← last) (one-more row j (first + q + 1) long) in
+              let places = set row′ j (first + q + 1) in
+              let pre : take m places ≡ take j row ++ ((first + q + 1) ∷ []) = rw (← last) longer in
               going-past (rw one refl) (el ∙ rw (one, ← pre) (rw (take-take m m places (omega arith))))
 
           pub going-more : (inner : j + 1 < m) {a b : ℕ} (ea : a ≡ q + getD low (j + 1) 0 + 1) (eb : b ≡ q + getD high (j + 1) 0 + 1) {space′ : ℕ} (same : space′ ≡ space)
-              {r : ℕ} {l″ : List ℕ} → Walked (child inner ea eb same) places l′ r l″ → Going w row l v r l″
+              {r : ℕ} {l″ : List ℕ} → Walked (child inner ea eb same) (set row′ j (first + q + 1)) l′ r l″ → Going w row l v r l″
           unfolding child
           going-more inner {a} {b} ea eb same {r} {l″} d =
               let R = run (w .rows (j + 1)) a (b + 1) in
               let c = ap length (child-rows inner ea eb) ∙ length-map R (λ r. (first + q + 1) ∷ r) in
-              let pre : take (j + 1) places ≡ take j row ++ ((first + q + 1) ∷ []) = rw es (one-more row j (first + q + 1) long) in
               going-past (d .number ∙ ap (λ (k : ℕ). rows + k) (sym c))
-              (d .list ∙ ap (λ (T : List (List ℕ)). put m rows T l′) (rw (pre, child-rows inner ea eb) (sym (prefixed (take j row) (first + q + 1) R))))
+              (d .list ∙ ap (λ (T : List (List ℕ)). put m rows T l′) (rw (longer, child-rows inner ea eb) (sym (prefixed (take j row) (first + q + 1) R))))
 
     -- past the last index
     pub going-end : y < q → Walked w row l rows l′

@@ -32,8 +32,8 @@ fn put_whole(f: Pattern, t: &[u16], marks: &[u8], reach: usize, next: &mut [u16]
     reach_all(f, t, marks, 0, n, n, reach, 0, next);
     let low = lows(f);
     let high = highs(f);
-    let row = [0u16; 16];
-    walk(&low, &high, next, f.count, 0, 0, 0, n, row, 0, list);
+    let mut row = [0u16; 16];
+    walk(&low, &high, next, f.count, 0, 0, 0, n, &mut row, 0, list);
 }
 
 // Writes all occurrences of any pattern: by a table for each first place, of the places that a row can span.
@@ -54,14 +54,14 @@ fn put_each(
     let least = widen(f.least);
     let low = lows(f);
     let high = highs(f);
-    let row = [0u16; 16];
+    let mut row = [0u16; 16];
     let mut rows = 0;
     let mut i = 0;
     while i < n {
         if marks[i] == 1 {
             let k = clip(w, n - i);
             reach_all(f, t, marks, i, k, 0, reach, i + least, next);
-            rows = walk(&low, &high, next, m, i, 0, 0, 0, row, rows, list);
+            rows = walk(&low, &high, next, m, i, 0, 0, 0, &mut row, rows, list);
             i += 1;
         } else {
             i += 1;

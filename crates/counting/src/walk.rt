@@ -3,7 +3,7 @@ use matching::put_row;
 use pattern::Pattern;
 ghost use mathlib.Core.Path.{_≡_};
 ghost use Prim.Native.Nat.{_+_, _*_, _<_, _≤_};
-ghost use lib.ListN.{length, getD, set};
+ghost use lib.ListN.{length, getD, take};
 ghost use lib.Seq.{paste};
 ghost use Rattle.pattern.specs.Patterns.{slotAt};
 ghost use Rattle.counting.specs.Walks.{Bounds, Walk, Walked};
@@ -49,26 +49,17 @@ fn entry(next: &[u16], j: usize, i: usize) -> usize
     widen(next[k])
 }
 
-// The row with the place p at slot j.
-fn placed(row: [u16; 16], j: usize, p: usize) -> [u16; 16]
-    requires { ⌜ (j < 16) × (p < 65536) ⌝ }
-    ensures { λ r. ⌜ r ≡ set row j p ⌝ }
-{
-    let mut places = row;
-    places[j] = p as u16;
-    places
-}
-
 // Writes a row of m places as row number k of a list, counted from 0.
-fn put_at(list: &mut [u16], k: usize, row: [u16; 16], m: usize)
-    requires { ⌜ (m ≤ 16) × (k * m + m ≤ length (now list)) ⌝ }
-    ensures { λ _. ⌜ now (list .exit) ≡ paste (now (list .entry)) (k * m) row m ⌝ }
+fn put_at(list: &mut [u16], k: usize, row: &[u16], m: usize)
+    requires { ⌜ (m ≤ length (now row)) × (k * m + m ≤ length (now list)) ⌝ }
+    ensures { λ _. ⌜ now (list .exit) ≡ paste (now (list .entry)) (k * m) (now (row .entry)) m ⌝ }
 {
     let at = k * m;
     put_row(&mut list[at..], row, m);
 }
 
 // Writes the rows that start at the indexes x to y of slot j, after the rows done, and answers how many are done then.
+// Each begins with the row's places before slot j, which stay.
 pub(crate) fn walk(
     low: &[u16],
     high: &[u16],
@@ -78,26 +69,27 @@ pub(crate) fn walk(
     j: usize,
     x: usize,
     y: usize,
-    row: [u16; 16],
+    row: &mut [u16],
     done: usize,
     list: &mut [u16],
 ) -> usize
-    requires { ⌜ Walk m first (now low) (now high) (now next) j x y done (length (now list)) ⌝ }
-    ensures { λ r. ⌜ ((w : Walk m first (now (low .entry)) (now (high .entry)) (now (next .entry)) j x y done (length (now (list .entry)))) → Walked w row (now (list .entry)) r (now (list .exit))) ⌝ }
+    requires { ⌜ Walk m first (now low) (now high) (now next) j x y done (length (now list)) ⌝ ∗ ⌜ length (now row) ≡ 16 ⌝ }
+    ensures { λ r. ⌜ ((w : Walk m first (now (low .entry)) (now (high .entry)) (now (next .entry)) j x y done (length (now (list .entry)))) → Walked w (now (row .entry)) (now (list .entry)) r (now (list .exit))) ⌝ }
+    ensures { λ _. ⌜ take j (now (row .exit)) ≡ take j (now (row .entry)) ⌝ }
 {
     let mut rows = done;
     let mut q = entry(next, j, x);
     while q <= y {
-        let places = placed(row, j, first + q + 1);
+        row[j] = (first + q + 1) as u16;
         if j + 1 == m {
-            put_at(list, rows, places, m);
+            put_at(list, rows, row, m);
             rows += 1;
             q = entry(next, j, q + 1);
         } else {
             let k = j + 1;
             let a = q + widen(low[k]) + 1;
             let b = q + widen(high[k]) + 1;
-            rows = walk(low, high, next, m, first, k, a, b, places, rows, list);
+            rows = walk(low, high, next, m, first, k, a, b, row, rows, list);
             q = entry(next, j, q + 1);
         }
     }

@@ -44,7 +44,7 @@ pub overlaid : (m : ℕ) (row : List ℕ) {places : List ℕ} (marks : Marks) �
     → places ≡ rowOver m row (marks .places) → _≡_ {A = Marks} (record { places = places }) (marksOver (take m row) marks)
 overlaid m row {places} marks few long room e =
     let size : length (take m row) ≡ m = length-take-le m row (omega arith) in
-    let q : places ≡ take m row ++ drop m (marks .places) = simp (le-ltb 16 m few, le-ltb (length (marks .places)) m (omega arith)) at e in
+    let q : places ≡ take m row ++ drop m (marks .places) = simp (le-ltb (length row) m (omega arith), le-ltb (length (marks .places)) m (omega arith)) at e in
     ap placed (q ∙ ap (λ (k : ℕ). take m row ++ drop k (marks .places)) (sym size))
 
 -- ---- what is given

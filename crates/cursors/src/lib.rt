@@ -88,7 +88,7 @@ fn over(marks: Marks, row: [u16; 16], m: usize) -> Marks
     ensures { λ r. ⌜ r ≡ marksOver (take m row) marks ⌝ }
 {
     let mut places = marks.places;
-    put_row(&mut places, row, m);
+    put_row(&mut places, &row, m);
     Marks { places }
 }
 

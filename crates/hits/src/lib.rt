@@ -34,7 +34,7 @@ fn place_fits(words: [u16; 8], count: usize, text: &[u16], place: usize) -> bool
         return false;
     }
     let i = place - 1;
-    pattern::lists(words, count, text[i])
+    pattern::lists(&words, count, text[i])
 }
 
 // Whether each place of the row is in the text and its word in the slot.

@@ -14,7 +14,7 @@ use Rattle.matching.specs.declared.search.Answer.{Answer}
 use Rattle.matching.specs.Occurrence.{at}
 use Rattle.matching.specs.Searches.{earliest, latest}
 use Rattle.matching.specs.Answers.{sixteen, searched, shownAnswer}
-use Rattle.matching.specs.Steps.Settling.{Ready, Reported, Answered, AnsweredBack, Copied}
+use Rattle.matching.specs.Steps.Settling.{Ready, Reported, Answered, AnsweredBack, Copied, Spare}
 use Rattle.matching.specs.Steps.Turning.{flip, Turned, Flipped}
 use Rattle.matching.specs.Laws.Extremes.{earliest-some, earliest-none, latest-some, latest-none, earliest-same, latest-same}
 use Rattle.matching.specs.Laws.Mirror.{length-flip, Opposite, flip-opposite, nearest-back, none-back}
@@ -26,7 +26,13 @@ use Rattle.matching.specs.Laws.Ready.{ready, RowAccepted}
 pub copied : {marks p : List ℕ} {j : ℕ} → length p ≡ 16 → length marks ≤ j → ((k : ℕ) → k < j → at p k ≡ at marks k) → ((k : ℕ) → j ≤ k → at p k ≡ 0) → Copied marks p
 copied {marks} {p} {j} e l same rest = record { size = e; same = λ k. elim (decLt k j) [ yes h ↦ same k h | no h ↦ rest k (omega arith) ∙ sym (at-past marks k (omega arith)) ] }
 
+pub copied-spare : {marks p : List ℕ} {m : ℕ} → length marks ≡ m → Copied marks p → Spare m p
+copied-spare {marks} e C = record { size = C .size; rest = λ j h. C .same j ∙ at-past marks j (omega arith) }
+
 -- ---- a search from the end
+
+pub flipped-spare : {m k n : ℕ} {row p : List ℕ} → k ≡ m → Flipped m n row p → Spare k p
+flipped-spare e F = record { size = F .size; rest = λ j h. F .rest j (omega arith) }
 
 -- a row of an array, read from the end
 pub same-row : {m n : ℕ} {row near : List ℕ} → length row ≡ 16 → m ≤ 16 → Flipped m n row near → take m near ≡ flip n (take m row)

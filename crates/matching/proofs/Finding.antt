@@ -7,11 +7,12 @@ use mathlib.Core.Path.{_≡_, refl, sym, ap, _∙_}
 use lib.ListN.{length, take, replicate, length-append}
 use lib.Seq.{getD-take}
 use Rattle.pattern.specs.declared.Pattern.{Pattern}
+use Rattle.pattern.specs.Laws.Arrays.{zeros-at}
 use Rattle.matching.specs.declared.search.Answer.{Answer}
 use Rattle.matching.specs.Occurrence.{Occurs, at}
 use Rattle.matching.specs.Rows.{level, Before, NotAfter}
 use Rattle.matching.specs.Lists.{leftmost}
-use Rattle.matching.specs.Steps.Settling.{Ready, Answered}
+use Rattle.matching.specs.Steps.Settling.{Ready, Answered, Spare}
 use Rattle.matching.specs.Laws.Direction.{forwards}
 use Rattle.matching.specs.Laws.Greedy.{Run, start, run-append, run-done, run-split}
 use Rattle.matching.specs.Laws.Extremes.{Earliest, leftmost-front, front-unique}
@@ -28,9 +29,10 @@ pub record Counted (g : Pattern) (u marks : List ℕ) (k : ℕ) : Type 0 where
   pub size : length rows ≡ k
   pub below : k ≤ at marks 0
   pub inside : at marks 0 ≤ length u
+  pub spare : Spare (g .count) marks
 
 unfoldable pub counted-begin : (g : Pattern) (u : List ℕ) → g .count ≤ 16 → Counted g u (replicate 16 0) 0
-counted-begin g u few = record { rows = []; run = rw (take-zeros (g .count) 16 few) start; size = refl; below = omega arith; inside = omega arith }
+counted-begin g u few = record { rows = []; run = rw (take-zeros (g .count) 16 few) start; size = refl; below = omega arith; inside = omega arith; spare = record { size = refl; rest = λ j _. zeros-at 16 j } }
 
 pub counted-few : {g : Pattern} {u marks : List ℕ} {k : ℕ} → Counted g u marks k → Ready g u → k ≤ 20000
 counted-few C ok = omega (arith, C .below, C .inside, ok .short)
@@ -65,6 +67,7 @@ module _ {g : Pattern} {u marks : List ℕ} {k : ℕ} (C : Counted g u marks k) 
         size = omega (arith, length-append (C .rows) (r ∷ []), C .size);
         below = omega (arith, C .below, E .past 0 (ok .some), getD-take m (a .places) 0 0 (ok .some));
         inside = omega (arith, E .hit .inside 0 (ok .some), getD-take m (a .places) 0 0 (ok .some));
+        spare = record { size = A .size e; rest = A .rest e };
       }
 
   pub counted-less : a .found ≡ true → 20001 - at (a .places) 0 < 20001 - at marks 0

@@ -1,6 +1,7 @@
 -- Laws that the proofs of several functions share.
 mod Least
 mod Reading
+mod Laying
 mod Raising
 mod Settling
 mod Turning

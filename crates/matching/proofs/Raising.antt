@@ -83,7 +83,7 @@ module _ {f : Pattern} {t : List ℕ} where
   unfolding NotAfter
   rising-same p e = record { size = e; above = λ k _. omega arith; rest = λ k _. refl; sound = λ q _ B. B }
 
-  pub placed : {p q : List ℕ} → Rising f t p q → Placed f p → Placed f q
+  pub placed : {p q : List ℕ} → Rising f t p q → Placed (f .count) p → Placed (f .count) q
   unfolding NotAfter
   placed A P k h = omega (arith, A .above k h, P k h)
 

@@ -13,7 +13,7 @@ use Rattle.matching.specs.Occurrence.{Occurs, at}
 use Rattle.matching.specs.Rows.{Before, NotAfter}
 use Rattle.matching.specs.Steps.Bounds.{Next}
 use Rattle.matching.proofs.Raising.{rising-same, stable, raised, placed}
-use Rattle.matching.specs.Steps.Settling.{Ready, Visited, Placed, Never, Rising, Stable, Settled, Started, Answered}
+use Rattle.matching.specs.Steps.Settling.{Ready, Visited, Placed, Never, Rising, Stable, Settled, Started, Answered, Spare}
 
 -- the invariant of the rounds: the slots of the last `calm` visits are stable
 pub record Calm (f : Pattern) (t p₀ p : List ℕ) (calm j : ℕ) : Type 0 where
@@ -61,7 +61,7 @@ occurs f t p some few pos still =
     }
 
 -- nothing is left to raise
-pub settled : {f : Pattern} {t p₀ p : List ℕ} → Ready f t → Placed f p₀ → Rising f t p₀ p → ((k : ℕ) → k < f .count → Stable f t p k) → Settled f t p₀ (record { found = true; places = p })
+pub settled : {f : Pattern} {t p₀ p : List ℕ} → Ready f t → Placed (f .count) p₀ → Rising f t p₀ p → ((k : ℕ) → k < f .count → Stable f t p k) → Settled f t p₀ (record { found = true; places = p })
 settled {f = f} {t = t} {p = p} ok pos S still =
     record {
       occurs = λ _. occurs f t p (ok .some) (omega (arith, S .size, ok .few)) (placed S pos) still;
@@ -79,22 +79,23 @@ unsettled {a = a} e h =
 
 -- the search's answer, from the row just past the marks and the earliest occurrence at or after it
 module _ (f : Pattern) (t : List ℕ) {n : ℕ} {marks : List ℕ} {s : Answer} (size : n ≡ length t) (S : Started (f .count) n marks s) where
-  pub answered : {a : Answer} → s .found ≡ true → Settled f t (s .places) a → Answered f t marks a
+  pub answered : {a : Answer} → Spare (f .count) marks → s .found ≡ true → Settled f t (s .places) a → Answered f t marks a
   unfolding Before NotAfter
-  answered {a} e A =
+  answered {a} clear e A =
       let m = f .count in
       let up : (q : List ℕ) → Before m marks q → NotAfter m (s .places) q = λ q P k h. omega (arith, S .past e k h, P k h) in
       record {
         some = λ g. record { hit = A .occurs g; past = λ k h. omega (arith, getD-take m (a .places) k 0 h, A .above g k h, S .past e k h); least = λ q O P k h. omega (arith, getD-take m (a .places) k 0 h, A .first g q O (up q P) k h) };
         size = A .size;
-        rest = λ g k h. A .rest g k h ∙ S .rest e k h;
+        rest = λ g k h. A .rest g k h ∙ S .rest e k h ∙ clear .rest k h;
         none = λ g q O P. A .none g q O (up q P);
       }
 
-  pub unanswered : s .found ≡ false → Answered f t marks s
+  pub unanswered : {a : Answer} → a .found ≡ false → s .found ≡ false → Answered f t marks a
   unfolding Before
-  unanswered e =
-      record { some = λ g. absurd (true≢false (sym g ∙ e)); size = λ g. absurd (true≢false (sym g ∙ e)); rest = λ g. absurd (true≢false (sym g ∙ e)); none = λ _ q O P. S .none e q P (λ k h. omega (arith, O .inside k h .1)) }
+  unanswered {a} d e =
+      let no-such : a .found ≡ true → ⊥ = λ g. true≢false (sym g ∙ d) in
+      record { some = λ g. absurd (no-such g); size = λ g. absurd (no-such g); rest = λ g. absurd (no-such g); none = λ _ q O P. S .none e q P (λ k h. omega (arith, O .inside k h .1)) }
 
 -- a mark at the text's end leaves nothing past it
 pub start-none : (m n : ℕ) (marks : List ℕ) (j : ℕ) → j < m → n ≤ at marks j → (q : List ℕ) → Before m marks q → ((k : ℕ) → k < m → at q k ≤ n) → ⊥

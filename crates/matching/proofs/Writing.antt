@@ -5,43 +5,17 @@ use native.Mathlib.Nat.{add-mul, one-mul, suc-mul, zero-mul, mul-le-mul-right, m
 use mathlib.Core.List.{List, [], _∷_, _++_, append-assoc, append-nil}
 use mathlib.Core.Bool.{true, false}
 use mathlib.Core.Path.{_≡_, refl, sym, ap, _∙_}
-use lib.ListN.{length, take, drop, replicate, length-append, length-drop, take-append-drop, drop-of-length-le}
-use lib.Seq.{paste, length-take-le, take-all, take-append-seam, drop-append-add, drop-append-seam, drop-drop}
-use borrow.Author.Tests.{le-ltb}
-use borrow.Rule.Slice.PartMut.{putMid}
+use lib.ListN.{length, take, drop, replicate, length-append, length-drop, take-append-drop}
+use lib.Seq.{paste, length-take-le, take-append-seam, drop-append-add, drop-append-seam, drop-drop}
 use Rattle.pattern.specs.declared.Pattern.{Pattern}
 use Rattle.matching.specs.declared.search.Answer.{Answer}
 use Rattle.matching.specs.Collections.{Every, none, more}
 use Rattle.matching.specs.Lists.{leftmost}
-use Rattle.matching.specs.Written.{rowOver, flat, written}
+use Rattle.matching.specs.Written.{flat, written}
 use Rattle.matching.specs.Steps.Settling.{Ready, Answered}
 use Rattle.matching.specs.Laws.Collections.{every-map}
 use Rattle.matching.specs.Laws.Greedy.{run-hits}
 use Rattle.matching.proofs.Finding.{Counted, counted-begin, counted-more, counted-all, counted-within}
-
--- ---- a part of a list that was lent and has come back, said of the whole
-
-module _ (xs : List ℕ) (at : ℕ) (inside : at ≤ length xs) where
-  -- the part from `at` to the end
-  tail-is : take (length xs - at) (drop at xs) ≡ drop at xs
-  tail-is = take-all (length xs - at) (drop at xs) (omega (arith, length-drop at xs))
-
-  after-none : drop (length xs - at) (drop at xs) ≡ []
-  after-none = drop-of-length-le (drop at xs) {i = length xs - at} (omega (arith, length-drop at xs))
-
-  -- the whole, once the part from `at` has come back
-  mid-is : (ys : List ℕ) → putMid at (length xs - at) xs ys ≡ take at xs ++ ys
-  mid-is ys = ap (λ (r : List ℕ). take at xs ++ (ys ++ r)) after-none ∙ ap (λ (r : List ℕ). take at xs ++ r) (append-nil ys)
-
-  pub row-pasted : (row ys : List ℕ) (n : ℕ) → n ≤ 16 → at + n ≤ length xs → ys ≡ rowOver n row (take (length xs - at) (drop at xs))
-      → putMid at (length xs - at) xs ys ≡ paste xs at row n
-  row-pasted row ys n few room e =
-      let w = take (length xs - at) (drop at xs) in
-      let lw : length w ≡ length xs - at = ap length tail-is ∙ length-drop at xs in
-      let f : ys ≡ take n row ++ drop n w = simp (le-ltb 16 n few, le-ltb (length w) n (omega arith)) at e in
-      mid-is ys
-      ∙ ap (λ (r : List ℕ). take at xs ++ r) (f ∙ ap (λ (r : List ℕ). take n row ++ r) (ap (drop n) tail-is ∙ drop-drop n at xs))
-      ∙ sym (append-assoc (take at xs) (take n row) (drop (at + n) xs))
 
 -- ---- rows in a flat list
 

@@ -21,3 +21,4 @@ pub mod Texts
 pub mod Mirror
 pub mod Turning
 pub mod Ready
+pub mod Lending

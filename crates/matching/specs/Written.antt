@@ -5,9 +5,9 @@ use lib.ListN.{length, take, drop}
 use lib.Dec.{ltb}
 use Rattle.pattern.specs.Tests.{pick}
 
--- the first n places of a row of at most 16 over the start of the list, which stays as it was where they do not fit
+-- the first n places of a row over the start of the list, which stays as it was where the row or the list has fewer
 abbrev pub rowOver : ℕ → List ℕ → List ℕ → List ℕ
-rowOver n row l = pick (ltb 16 n) l (pick (ltb (length l) n) l (take n row ++ drop n l))
+rowOver n row l = pick (ltb (length row) n) l (pick (ltb (length l) n) l (take n row ++ drop n l))
 
 -- the rows one after the other
 unfoldable pub flat : List (List ℕ) → List ℕ

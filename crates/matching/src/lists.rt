@@ -1,9 +1,10 @@
+use crate::layout::lay_out;
 use crate::mirror::minus;
 use crate::mirror::turned;
 use crate::places::wide;
 use crate::rows::Listed;
 use crate::rows::put_row;
-use crate::search::search;
+use crate::search::advance;
 use pattern::Pattern;
 use pattern::Refusal;
 use pattern::Verdict;
@@ -35,17 +36,15 @@ fn count_rows(g: Pattern, text: &[u16], mirrored: bool) -> usize
     requires { ⌜ Ready g (seen mirrored (now text)) ⌝ }
     ensures { λ r. ⌜ (r ≡ length (leftmost g (seen mirrored (now (text .entry))))) × (r ≤ 20000) ⌝ }
 {
+    let layout = lay_out(g);
     let mut last = [0u16; 16];
     let mut k: usize = 0;
     loop {
-        let a = search(g, text, mirrored, last);
-        let found = a.found;
-        if !found {
+        if advance(&layout, g.count, g.least, g.most, text, mirrored, &mut last) {
+            k += 1;
+        } else {
             return k;
         }
-        let row = a.places;
-        last = row;
-        k += 1;
     }
 }
 
@@ -56,19 +55,17 @@ fn write_rows(g: Pattern, text: &[u16], mirrored: bool, list: &mut [u16]) -> usi
     ensures { λ _. ⌜ now (list .exit) ≡ written (g .count) (leftmost g (seen mirrored (now (text .entry)))) (now (list .entry)) ⌝ }
 {
     let m = g.count;
-    let mut marks = [0u16; 16];
+    let layout = lay_out(g);
+    let mut row = [0u16; 16];
     let mut k: usize = 0;
     loop {
-        let a = search(g, text, mirrored, marks);
-        let found = a.found;
-        if !found {
+        if advance(&layout, m, g.least, g.most, text, mirrored, &mut row) {
+            let at = k * m;
+            put_row(&mut list[at..], &row, m);
+            k += 1;
+        } else {
             return k;
         }
-        let row = a.places;
-        let at = k * m;
-        put_row(&mut list[at..], row, m);
-        marks = row;
-        k += 1;
     }
 }
 

@@ -26,15 +26,9 @@ fn word(text: &[u16], mirrored: bool, place: usize) -> u16
 }
 
 // The first place from `from` on whose word is one of the first `count`, or one past the text.
-pub(crate) fn first(
-    words: [u16; 8],
-    count: usize,
-    text: &[u16],
-    mirrored: bool,
-    from: usize,
-) -> usize
+pub(crate) fn first(words: &[u16], count: usize, text: &[u16], mirrored: bool, from: usize) -> usize
     requires { ⌜ 1 ≤ from ⌝ }
-    ensures { λ r. ⌜ First words count (seen mirrored (now (text .entry))) from r ⌝ }
+    ensures { λ r. ⌜ First (now (words .entry)) count (seen mirrored (now (text .entry))) from r ⌝ }
 {
     let n = text.len();
     let mut p = from;

@@ -8,11 +8,11 @@ pub enum Listed {
     Refused(Refusal),
 }
 
-// Writes the first n places of a row over the start of a list; nothing where they do not fit.
-pub fn put_row(list: &mut [u16], row: [u16; 16], n: usize)
-    ensures { λ _. ⌜ now (list .exit) ≡ rowOver n row (now (list .entry)) ⌝ }
+// Writes the first n places of a row over the start of a list; nothing where the row or the list has fewer.
+pub fn put_row(list: &mut [u16], row: &[u16], n: usize)
+    ensures { λ _. ⌜ now (list .exit) ≡ rowOver n (now (row .entry)) (now (list .entry)) ⌝ }
 {
-    if 16 < n {
+    if row.len() < n {
         return;
     }
     if list.len() < n {

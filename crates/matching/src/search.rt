@@ -1,11 +1,16 @@
 use crate::bounds::need;
 use crate::bounds::next;
 use crate::bounds::prior;
+use crate::layout::lay_out;
 use crate::places::first;
 use crate::places::wide;
 use pattern::Pattern;
-ghost use Prim.Native.Nat.{_≤_};
-ghost use Rattle.matching.specs.Steps.Settling.{Ready, Placed, Settled, Started, Answered};
+ghost use mathlib.Core.Path.{_≡_};
+ghost use Prim.Native.Nat.{_≤_, _<_};
+ghost use lib.ListN.{length};
+ghost use Rattle.matching.specs.Occurrence.{at};
+ghost use Rattle.matching.specs.Steps.Settling.{Ready, Visited, Placed, Settled, Started, Answered, Spare};
+ghost use Rattle.matching.specs.Steps.Layout.{Plan, planned};
 ghost use Rattle.matching.specs.Steps.Turning.{seen};
 
 // The places of an occurrence, 0 past the pattern's slots, and whether there is one.
@@ -14,44 +19,62 @@ pub struct Answer {
     pub found: bool,
 }
 
-// The earliest occurrence at or after the row `start`: the slots are visited in turn until none asks more of its place.
-fn settle(f: Pattern, text: &[u16], mirrored: bool, start: [u16; 16]) -> Answer
-    requires { ⌜ Ready f (seen mirrored (now text)) ⌝ ∗ ⌜ Placed f start ⌝ }
-    ensures { λ r. ⌜ Settled f (seen mirrored (now (text .entry))) start r ⌝ }
+// The least place of the slot j that its own, its neighbours and the text's words allow.
+fn visit(
+    layout: &[u16],
+    m: usize,
+    least: u16,
+    most: u16,
+    text: &[u16],
+    mirrored: bool,
+    p: &[u16],
+    j: usize,
+) -> usize
+    requires { ⌜ Plan (seen mirrored (now text)) m least most (now layout) ⌝ ∗ ⌜ (j < m) × (length (now p) ≡ 16) × (1 ≤ at (now p) j) ⌝ }
+    ensures { λ r. ⌜ ((w : Plan (seen mirrored (now (text .entry))) m least most (now (layout .entry))) → Visited (planned w) (seen mirrored (now (text .entry))) (now (p .entry)) j r) ⌝ }
+{
+    let i = prior(j, m);
+    let k = next(j, m);
+    let at = 11 * j;
+    let after = 11 * k;
+    let from = need(
+        j,
+        m,
+        wide(p[j]),
+        wide(p[i]),
+        wide(p[k]),
+        wide(layout[at]),
+        wide(layout[after + 1]),
+        wide(least),
+        wide(most),
+    );
+    let count = wide(layout[at + 2]);
+    first(&layout[at + 3..at + 11], count, text, mirrored, from)
+}
+
+// Raises the row to the earliest occurrence at or after it, if there is one: the slots are visited in turn until none asks more.
+fn settle(
+    layout: &[u16],
+    m: usize,
+    least: u16,
+    most: u16,
+    text: &[u16],
+    mirrored: bool,
+    p: &mut [u16],
+) -> bool
+    requires { ⌜ Plan (seen mirrored (now text)) m least most (now layout) ⌝ ∗ ⌜ (length (now p) ≡ 16) × Placed m (now p) ⌝ }
+    ensures { λ r. ⌜ ((w : Plan (seen mirrored (now (text .entry))) m least most (now (layout .entry))) → Settled (planned w) (seen mirrored (now (text .entry))) (now (p .entry)) (record { found = r; places = now (p .exit) })) ⌝ }
 {
     let n = text.len();
-    let m = f.count;
-    let least = wide(f.least);
-    let most = wide(f.most);
-    let mut p = start;
     let mut calm: usize = 0;
     let mut j: usize = 0;
     while calm < m {
-        let i = prior(j, m);
         let k = next(j, m);
-        let s = f.slots[j];
-        let u = f.slots[k];
-        let own = wide(p[j]);
-        let from = need(
-            j,
-            m,
-            own,
-            wide(p[i]),
-            wide(p[k]),
-            wide(s.low),
-            wide(u.high),
-            least,
-            most,
-        );
-        let w = s.words;
-        let q = first(w, s.count, text, mirrored, from);
+        let q = visit(layout, m, least, most, text, mirrored, p, j);
         if n < q {
-            return Answer {
-                found: false,
-                places: [0u16; 16],
-            };
+            return false;
         }
-        if q == own {
+        if q == wide(p[j]) {
             calm += 1;
             j = k;
         } else {
@@ -60,46 +83,60 @@ fn settle(f: Pattern, text: &[u16], mirrored: bool, start: [u16; 16]) -> Answer
             j = k;
         }
     }
-    Answer {
-        found: true,
-        places: p,
-    }
+    true
 }
 
-// The row just past the marks, if all its places are in a text of n words.
-fn start(m: usize, n: usize, marks: [u16; 16]) -> Answer
-    requires { ⌜ (m ≤ 16) × (n ≤ 20000) ⌝ }
-    ensures { λ r. ⌜ Started m n marks r ⌝ }
+// Raises the first m places of the row by one, if they are in a text of n words then.
+fn start(m: usize, n: usize, p: &mut [u16]) -> bool
+    requires { ⌜ (m ≤ length (now p)) × (n ≤ 20000) ⌝ }
+    ensures { λ r. ⌜ Started m n (now (p .entry)) (record { found = r; places = now (p .exit) }) ⌝ }
 {
-    let mut p = [0u16; 16];
     let mut j = 0;
     while j < m {
-        let x = marks[j];
+        let x = p[j];
         if n <= wide(x) {
-            return Answer {
-                found: false,
-                places: [0u16; 16],
-            };
+            return false;
         }
         p[j] = x + 1;
         j += 1;
     }
-    Answer {
-        found: true,
-        places: p,
+    true
+}
+
+// Raises the row to the earliest occurrence past it, if there is one.
+pub(crate) fn advance(
+    layout: &[u16],
+    m: usize,
+    least: u16,
+    most: u16,
+    text: &[u16],
+    mirrored: bool,
+    p: &mut [u16],
+) -> bool
+    requires { ⌜ Plan (seen mirrored (now text)) m least most (now layout) ⌝ ∗ ⌜ Spare m (now p) ⌝ }
+    ensures { λ r. ⌜ ((w : Plan (seen mirrored (now (text .entry))) m least most (now (layout .entry))) → Answered (planned w) (seen mirrored (now (text .entry))) (now (p .entry)) (record { found = r; places = now (p .exit) })) ⌝ }
+{
+    if start(m, text.len(), p) {
+        return settle(layout, m, least, most, text, mirrored, p);
     }
+    false
 }
 
 // The earliest occurrence past the marks in the text, or in the text read from its end.
 pub(crate) fn search(f: Pattern, text: &[u16], mirrored: bool, marks: [u16; 16]) -> Answer
-    requires { ⌜ Ready f (seen mirrored (now text)) ⌝ }
+    requires { ⌜ Ready f (seen mirrored (now text)) ⌝ ∗ ⌜ Spare (f .count) marks ⌝ }
     ensures { λ r. ⌜ Answered f (seen mirrored (now (text .entry))) marks r ⌝ }
 {
-    let first = start(f.count, text.len(), marks);
-    let found = first.found;
-    if found {
-        let row = first.places;
-        return settle(f, text, mirrored, row);
-    }
-    first
+    let layout = lay_out(f);
+    let mut places = marks;
+    let found = advance(
+        &layout,
+        f.count,
+        f.least,
+        f.most,
+        text,
+        mirrored,
+        &mut places,
+    );
+    Answer { places, found }
 }

@@ -21,11 +21,11 @@ fn smaller(a: usize, b: usize) -> usize
     b
 }
 
-// Whether the word is one of the first `count` of a slot's words.
-pub fn lists(words: [u16; 8], count: usize, word: u16) -> bool
-    ensures { λ r. ⌜ r ≡ member word (take count words) ⌝ }
+// Whether the word is one of the first `count` of the words.
+pub fn lists(words: &[u16], count: usize, word: u16) -> bool
+    ensures { λ r. ⌜ r ≡ member word (take count (now (words .entry))) ⌝ }
 {
-    let n = smaller(count, 8);
+    let n = smaller(count, words.len());
     let mut i = 0;
     while i < n {
         if words[i] == word {
@@ -66,6 +66,6 @@ impl Slot {
         ensures { λ r. ⌜ r ≡ takes self word ⌝ }
     {
         let words = self.words;
-        lists(words, self.count, word)
+        lists(&words, self.count, word)
     }
 }

@@ -1,6 +1,5 @@
 -- What is known once both files were read: pattern and text are accepted, and the list begins with the words shown. Assumes nothing.
 use Prim.Native.Nat.{ℕ, _≤_}
-use native.Mathlib.Omega.{arith}
 use mathlib.Core.Bool.{Bool, true, false}
 use mathlib.Core.List.{List}
 use mathlib.Core.Path.{_≡_, refl, ap}
@@ -9,7 +8,6 @@ use lib.ListN.{length, take}
 use lib.Seq.{take-at}
 use Rattle.pattern.specs.Laws.Accepting.{input-accepted}
 use Rattle.pattern.specs.Tests.{inputVerdict, pick}
-use Rattle.pattern.specs.declared.refusal.Refusal.{Refusal}
 use Rattle.pattern.specs.declared.refusal.Refusal.the-variants.{FileLength}
 use Rattle.pattern.specs.declared.refusal.Verdict.{Verdict}
 use Rattle.pattern.specs.declared.refusal.Verdict.the-variants.{Accepted, Refused}
@@ -19,7 +17,7 @@ use Rattle.format.specs.Texts.{shownWords, textContents, textRead, textW
 use Rattle.format.specs.declared.texts.TextRead.{TextRead}
 use Rattle.format.specs.declared.texts.TextRead.the-variants.{Words}
 use Rattle.format.specs.declared.texts.TextRead.the-variants.{Refused as NoText}
-use Rattle.format.specs.Laws.Reading.{pattern-read, text-read, text-written}
+use Rattle.format.specs.Laws.Reading.{not-read, pattern-read, text-read, text-written}
 use Rattle.format.specs.Laws.TextShown.{text-shown}
 
 -- n words were read, into a list that held `out`
@@ -28,9 +26,6 @@ pub record ReadBoth (p t out : List ℕ) (n : ℕ) : Type 0 where
   pub fits : n ≤ length out
   pub count : length (shownWords (textContents t)) ≡ n
   pub start : take n (inputWritten p t out) ≡ shownWords (textContents t)
-
-no-words : {why : Refusal} {n : ℕ} → NoText why ≡ Words n → ⊥
-no-words e = let z : _≡_ {A = ℕ} 0 1 = cc in omega arith
 
 module _ (p t out : List ℕ) (n : ℕ) where
   both-read : patternRead p .verdict ≡ Accepted → textRead t (length out) ≡ Words n
@@ -45,8 +40,8 @@ module _ (p t out : List ℕ) (n : ℕ) where
   -- past both tests of 12: the pattern's verdict, then how the text was read
   after-pattern : (v : Verdict) → patternRead p .verdict ≡ v → (a : TextRead) → textRead t (length out) ≡ a → withPattern v (patternRead p .pattern) a .text ≡ Words n
       → (withPattern v (patternRead p .pattern) a .pattern ≡ patternRead p .pattern) × (v ≡ Accepted) × (a ≡ Words n)
-  after-pattern (Refused why) ev a ea e = absurd (no-words e)
-  after-pattern Accepted ev (NoText why) ea e = absurd (no-words e)
+  after-pattern (Refused why) ev a ea e = absurd (not-read e)
+  after-pattern Accepted ev (NoText why) ea e = absurd (not-read e)
   after-pattern Accepted ev (Words m) ea e = (refl, refl, e)
 
   -- where n words were read, all this holds
@@ -57,8 +52,8 @@ module _ (p t out : List ℕ) (n : ℕ) where
       go : (x : Bool) → ltb 60000 (length p) ≡ x → (y : Bool) → ltb 60000 (length t) ≡ y
           → pick x (refusedInput FileLength) (pick y (refusedInput FileLength) (withPattern (patternRead p .verdict) (patternRead p .pattern) (textRead t (length out)))) .text ≡ Words n
           → ReadBoth p t out n
-      go true a y b k = absurd (no-words k)
-      go false a true b k = absurd (no-words k)
+      go true a y b k = absurd (not-read k)
+      go false a true b k = absurd (not-read k)
       go false a false b k =
           let h = after-pattern (patternRead p .verdict) refl (textRead t (length out)) refl k in
           let r = both-read (h .1) (h .2) in

@@ -100,7 +100,7 @@ pub record ShowsText (s : List ℕ) (room n : ℕ) : Type 0 where
   pub few : n ≤ 20000
   pub fits : n ≤ room
 
-not-read : {why : Refusal} {n : ℕ} → NoText why ≡ Words n → ⊥
+pub not-read : {why : Refusal} {n : ℕ} → NoText why ≡ Words n → ⊥
 not-read e = let z : _≡_ {A = ℕ} 0 1 = cc in omega arith
 
 counted : {m n : ℕ} → Words m ≡ Words n → m ≡ n

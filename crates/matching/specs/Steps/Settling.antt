@@ -32,9 +32,14 @@ pub record Visited (f : Pattern) (t p : List ℕ) (j r : ℕ) : Type 0 where
   pub hit : r ≤ length t → takes (slotAt f j) (wordAt t r) ≡ true
   pub least : (x : ℕ) → Bound f p j x → takes (slotAt f j) (wordAt t x) ≡ true → r ≤ x
 
--- every place of the row is at least the first
-abbrev pub Placed : Pattern → List ℕ → Type 0
-Placed f p = (j : ℕ) → j < f .count → 1 ≤ at p j
+-- every place of the row of m slots is at least the first
+abbrev pub Placed : ℕ → List ℕ → Type 0
+Placed m p = (j : ℕ) → j < m → 1 ≤ at p j
+
+-- the row has room for every slot, and 0 past its own m
+pub record Spare (m : ℕ) (p : List ℕ) : Type 0 where
+  pub size : length p ≡ 16
+  pub rest : (j : ℕ) → m ≤ j → at p j ≡ 0
 
 -- no occurrence is at or after the row p
 abbrev pub Never : Pattern → List ℕ → List ℕ → Type 0
@@ -67,10 +72,10 @@ pub record Settled (f : Pattern) (t p : List ℕ) (a : Answer) : Type 0 where
   pub first : a .found ≡ true → (q : List ℕ) → Occurs f t q → NotAfter (f .count) p q → NotAfter (f .count) (a .places) q
   pub none : a .found ≡ false → (q : List ℕ) → Occurs f t q → NotAfter (f .count) p q → ⊥
 
--- the row just past the marks, with 0 past the slots; or a mark at the text's end
+-- the row just past the marks, the same past the slots; or a mark at the text's end
 pub record Started (m n : ℕ) (marks : List ℕ) (a : Answer) : Type 0 where
   pub past : a .found ≡ true → (j : ℕ) → j < m → at (a .places) j ≡ at marks j + 1
-  pub rest : a .found ≡ true → (j : ℕ) → m ≤ j → at (a .places) j ≡ 0
+  pub rest : a .found ≡ true → (j : ℕ) → m ≤ j → at (a .places) j ≡ at marks j
   pub none : a .found ≡ false → (q : List ℕ) → Before m marks q → ((j : ℕ) → j < m → at q j ≤ n) → ⊥
 
 -- ---- what a search answers

@@ -9,10 +9,10 @@ use Rattle.counting.proofs.listing.put_each.Statement.{statement}
 use Rattle.counting.proofs.listing.put_each.Tie as tie
 
 abbrev Inv-loop : tie.InvT-loop
-Inv-loop f t marks reach w next₀ list₀ n m least low high row rows₀ i₀ next list rows i = (length next ≡ length next₀) × Listing f t list₀ i rows list
+Inv-loop f t marks reach w next₀ list₀ n m least low high row₀ rows₀ i₀ next list row rows i = (length next ≡ length next₀) × (length row ≡ 16) × Listing f t list₀ i rows list
 
 abbrev μ-loop : tie.MeasureT-loop
-μ-loop f t marks reach w next₀ list₀ n m least low high row rows₀ i₀ next list rows i = n - i
+μ-loop f t marks reach w next₀ list₀ n m least low high row₀ rows₀ i₀ next list row rows i = n - i
 
 widen-requires : tie.Need-widen-requires Inv-loop μ-loop
 widen-requires c κs = search needs
@@ -24,7 +24,7 @@ highs-requires : tie.Need-highs-requires Inv-loop μ-loop
 highs-requires c κs = c .before .before .before .before .before .before .pre .0 .pattern .few
 
 loop-holds : tie.Need-loop-holds Inv-loop μ-loop
-loop-holds c = (refl, listing-begin)
+loop-holds c = (refl, refl, listing-begin)
 
 shared-slice-read-if1 : tie.Need-shared-slice-read-if1 Inv-loop μ-loop
 shared-slice-read-if1 c = let mk = c .before .before .before .before .before .before .before .before .before .before .pre .1 .0 in omega (arith, mk .size)
@@ -39,7 +39,7 @@ add-reach-all : tie.Need-add-reach-all Inv-loop μ-loop
 add-reach-all c = omega (arith, c .before .before .before .before .before .before .before .widen .ensures .1)
 
 reach-all-requires : tie.Need-reach-all-requires Inv-loop μ-loop
-reach-all-requires c κs = let ok = c .before .before .before .before .before .before .before .before .before .before .before .before .before .pre .0 in let mk = c .before .before .before .before .before .before .before .before .before .before .before .before .before .pre .1 .0 in let g = c .before .before .before .before .before .before .before .before .before .before .before .before .before .pre .1 .1 in let l = (c .before .before .before .before .before .loop) in (ok, (mk, (omega (arith, c .before .clip .ensures), omega arith, g .0, omega (arith, l .inv .0, g .3))))
+reach-all-requires c κs = let ok = c .before .before .before .before .before .before .before .before .before .before .before .before .before .pre .0 in let mk = c .before .before .before .before .before .before .before .before .before .before .before .before .before .pre .1 .0 in let g = c .before .before .before .before .before .before .before .before .before .before .before .before .before .pre .1 .1 in let l = c .before .before .before .before .before .loop in (ok, (mk, (omega (arith, c .before .clip .ensures), omega arith, g .0, omega (arith, l .inv .0, g .3))))
 
 slice-aggregate-walk : tie.Need-slice-aggregate-walk Inv-loop μ-loop
 slice-aggregate-walk c = search needs
@@ -47,17 +47,20 @@ slice-aggregate-walk c = search needs
 slice-aggregate-walk-2 : tie.Need-slice-aggregate-walk-2 Inv-loop μ-loop
 slice-aggregate-walk-2 c = search needs
 
+slice-aggregate-walk-3 : tie.Need-slice-aggregate-walk-3 Inv-loop μ-loop
+slice-aggregate-walk-3 c = search needs
+
 walk-requires : tie.Need-walk-requires Inv-loop μ-loop
-walk-requires c κs = let a = (c .before .before .before .before .before .before .before .before .before .before .before .before .before .before .before .before .before .before .before .before .args) in let ok = c .before .before .before .before .before .before .before .before .before .before .before .before .before .before .before .before .before .before .before .before .pre .0 in let g = c .before .before .before .before .before .before .before .before .before .before .before .before .before .before .before .before .before .before .before .before .pre .1 .1 in let l = (c .before .before .before .before .before .before .before .before .before .before .before .before .loop) in let s = l .inv .1 in let n = c .before .before .before .before .before .before .before .before .before .before .before .loop-test .taken in let lead = leading (a .f) (a .t .now) (l .i) (c .before .before .before .before .before .before .before .before .clip .result) 0 (l .i + c .before .before .before .before .before .before .before .before .before .before .before .before .before .before .before .widen .result) ok (omega (arith, c .before .before .before .before .before .before .before .before .clip .ensures, n)) (c .before .before .before .before .before .before .reach-all .ensures) (c .before .before .before .before .before .before .before .before .before .before .before .before .before .before .lows .ensures) (c .before .before .before .before .before .before .before .before .before .before .before .before .before .highs .ensures) (omega (arith, c .before .before .before .before .before .before .reach-all .kept .1 .1 .1 .1 .1 .1 .1 .1 .0, l .inv .0, g .3)) in let ef : l .i + c .before .before .before .before .before .before .before .before .before .before .before .before .before .before .before .widen .result ≡ l .i + a .f .least = omega (arith, c .before .before .before .before .before .before .before .before .before .before .before .before .before .before .before .widen .ensures .0) in window-walk ok s n (g .1) (c .before .before .before .before .before .before .before .before .clip .ensures) ef lead (g .4)
+walk-requires c κs = let a = c .before .before .before .before .before .before .before .before .before .before .before .before .before .before .before .before .before .before .before .before .before .args in let ok = c .before .before .before .before .before .before .before .before .before .before .before .before .before .before .before .before .before .before .before .before .before .pre .0 in let g = c .before .before .before .before .before .before .before .before .before .before .before .before .before .before .before .before .before .before .before .before .before .pre .1 .1 in let l = c .before .before .before .before .before .before .before .before .before .before .before .before .before .loop in let s = l .inv .2 in let n = c .before .before .before .before .before .before .before .before .before .before .before .before .loop-test .taken in let lead = leading (a .f) (a .t .now) (l .i) (c .before .before .before .before .before .before .before .before .before .clip .result) 0 (l .i + c .before .before .before .before .before .before .before .before .before .before .before .before .before .before .before .before .widen .result) ok (omega (arith, c .before .before .before .before .before .before .before .before .before .clip .ensures, n)) (c .before .before .before .before .before .before .before .reach-all .ensures) (c .before .before .before .before .before .before .before .before .before .before .before .before .before .before .before .lows .ensures) (c .before .before .before .before .before .before .before .before .before .before .before .before .before .before .highs .ensures) (omega (arith, c .before .before .before .before .before .before .before .reach-all .kept .1 .1 .1 .1 .1 .1 .1 .1 .0, l .inv .0, g .3)) in let ef : l .i + c .before .before .before .before .before .before .before .before .before .before .before .before .before .before .before .before .widen .result ≡ l .i + a .f .least = omega (arith, c .before .before .before .before .before .before .before .before .before .before .before .before .before .before .before .before .widen .ensures .0) in (window-walk ok s n (g .1) (c .before .before .before .before .before .before .before .before .before .clip .ensures) ef lead (g .4), l .inv .1)
 
 add-i : tie.Need-add-i Inv-loop μ-loop
-add-i c = let a = (c .before .before .before .before .before .before .before .before .before .before .before .before .before .before .before .before .before .before .before .before .before .before .before .args) in let ok = c .before .before .before .before .before .before .before .before .before .before .before .before .before .before .before .before .before .before .before .before .before .before .before .pre .0 in let mk = c .before .before .before .before .before .before .before .before .before .before .before .before .before .before .before .before .before .before .before .before .before .before .before .pre .1 .0 in let g = c .before .before .before .before .before .before .before .before .before .before .before .before .before .before .before .before .before .before .before .before .before .before .before .pre .1 .1 in let short = ok .short in let l = (c .before .before .before .before .before .before .before .before .before .before .before .before .before .before .before .loop) in let s = l .inv .1 in let n = c .before .before .before .before .before .before .before .before .before .before .before .before .before .before .loop-test .taken in omega arith
+add-i c = let short = c .before .before .before .before .before .before .before .before .before .before .before .before .before .before .before .before .before .before .before .before .before .before .before .before .before .pre .0 .short in let n = c .before .before .before .before .before .before .before .before .before .before .before .before .before .before .before .before .loop-test .taken in omega arith
 
 loop-less : tie.Need-loop-less Inv-loop μ-loop
 loop-less c = search needs
 
 loop-again : tie.Need-loop-again Inv-loop μ-loop
-loop-again c = let a = (c .before .before .before .before .before .before .before .before .before .before .before .before .before .before .before .before .before .before .before .before .before .before .before .args) in let ok = c .before .before .before .before .before .before .before .before .before .before .before .before .before .before .before .before .before .before .before .before .before .before .before .pre .0 in let g = c .before .before .before .before .before .before .before .before .before .before .before .before .before .before .before .before .before .before .before .before .before .before .before .pre .1 .1 in let l = (c .before .before .before .before .before .before .before .before .before .before .before .before .before .before .before .loop) in let s = l .inv .1 in let n = c .before .before .before .before .before .before .before .before .before .before .before .before .before .before .loop-test .taken in let lead = leading (a .f) (a .t .now) (l .i) (c .before .before .before .before .before .before .before .before .before .before .before .clip .result) 0 (l .i + c .before .before .before .before .before .before .before .before .before .before .before .before .before .before .before .before .before .before .widen .result) ok (omega (arith, c .before .before .before .before .before .before .before .before .before .before .before .clip .ensures, n)) (c .before .before .before .before .before .before .before .before .before .reach-all .ensures) (c .before .before .before .before .before .before .before .before .before .before .before .before .before .before .before .before .before .lows .ensures) (c .before .before .before .before .before .before .before .before .before .before .before .before .before .before .before .before .highs .ensures) (omega (arith, c .before .before .before .before .before .before .before .before .before .reach-all .kept .1 .1 .1 .1 .1 .1 .1 .1 .0, l .inv .0, g .3)) in let ef : l .i + c .before .before .before .before .before .before .before .before .before .before .before .before .before .before .before .before .before .before .widen .result ≡ l .i + a .f .least = omega (arith, c .before .before .before .before .before .before .before .before .before .before .before .before .before .before .before .before .before .before .widen .ensures .0) in (c .before .before .before .before .before .before .before .before .before .reach-all .kept .1 .1 .1 .1 .1 .1 .1 .1 .0 ∙ l .inv .0, listing-more ok s n (g .1) (c .before .before .before .before .before .before .before .before .before .before .before .clip .ensures) ef lead (g .4) (c .before .before .walk .kept .1 .1 .1 .1 .1 .1 .1 .1 .1 .1 .0) (c .before .before .walk .ensures (window-walk ok s n (g .1) (c .before .before .before .before .before .before .before .before .before .before .before .clip .ensures) ef lead (g .4))))
+loop-again c = let a = c .before .before .before .before .before .before .before .before .before .before .before .before .before .before .before .before .before .before .before .before .before .before .before .before .before .args in let ok = c .before .before .before .before .before .before .before .before .before .before .before .before .before .before .before .before .before .before .before .before .before .before .before .before .before .pre .0 in let g = c .before .before .before .before .before .before .before .before .before .before .before .before .before .before .before .before .before .before .before .before .before .before .before .before .before .pre .1 .1 in let l = c .before .before .before .before .before .before .before .before .before .before .before .before .before .before .before .before .before .loop in let s = l .inv .2 in let n = c .before .before .before .before .before .before .before .before .before .before .before .before .before .before .before .before .loop-test .taken in let lead = leading (a .f) (a .t .now) (l .i) (c .before .before .before .before .before .before .before .before .before .before .before .before .before .clip .result) 0 (l .i + c .before .before .before .before .before .before .before .before .before .before .before .before .before .before .before .before .before .before .before .before .widen .result) ok (omega (arith, c .before .before .before .before .before .before .before .before .before .before .before .before .before .clip .ensures, n)) (c .before .before .before .before .before .before .before .before .before .before .before .reach-all .ensures) (c .before .before .before .before .before .before .before .before .before .before .before .before .before .before .before .before .before .before .before .lows .ensures) (c .before .before .before .before .before .before .before .before .before .before .before .before .before .before .before .before .before .before .highs .ensures) (omega (arith, c .before .before .before .before .before .before .before .before .before .before .before .reach-all .kept .1 .1 .1 .1 .1 .1 .1 .1 .0, l .inv .0, g .3)) in let ef : l .i + c .before .before .before .before .before .before .before .before .before .before .before .before .before .before .before .before .before .before .before .before .widen .result ≡ l .i + a .f .least = omega (arith, c .before .before .before .before .before .before .before .before .before .before .before .before .before .before .before .before .before .before .before .before .widen .ensures .0) in (c .before .before .before .before .before .before .before .before .before .before .before .reach-all .kept .1 .1 .1 .1 .1 .1 .1 .1 .0 ∙ l .inv .0, c .before .before .before .walk .kept .1 .1 .1 .1 .1 .1 .1 .1 .0 ∙ l .inv .1, listing-more ok s n (g .1) (c .before .before .before .before .before .before .before .before .before .before .before .before .before .clip .ensures) ef lead (g .4) (c .before .before .before .walk .kept .1 .1 .1 .1 .1 .1 .1 .1 .1 .1 .0) (c .before .before .before .walk .ensures .0 (window-walk ok s n (g .1) (c .before .before .before .before .before .before .before .before .before .before .before .before .before .clip .ensures) ef lead (g .4))))
 
 add-i-2 : tie.Need-add-i-2 Inv-loop μ-loop
 add-i-2 c = omega arith
@@ -66,16 +69,16 @@ loop-less-2 : tie.Need-loop-less-2 Inv-loop μ-loop
 loop-less-2 c = search needs
 
 loop-again-2 : tie.Need-loop-again-2 Inv-loop μ-loop
-loop-again-2 c = let ok = c .before .before .before .before .before .before .before .before .before .before .before .pre .0 in let mk = c .before .before .before .before .before .before .before .before .before .before .before .pre .1 .0 in let l = (c .before .before .before .loop) in let s = l .inv .1 in let n = c .before .before .loop-test .taken in (l .inv .0, listing-skip ok s n mk (c .if1 .left))
+loop-again-2 c = let ok = c .before .before .before .before .before .before .before .before .before .before .before .pre .0 in let mk = c .before .before .before .before .before .before .before .before .before .before .before .pre .1 .0 in let l = c .before .before .before .loop in let s = l .inv .2 in let n = c .before .before .loop-test .taken in (l .inv .0, l .inv .1, listing-skip ok s n mk (c .if1 .left))
 
 same-length : tie.Need-same-length Inv-loop μ-loop
 same-length c = c .before .loop .inv .0
 
 same-length-2 : tie.Need-same-length-2 Inv-loop μ-loop
-same-length-2 c = c .before .loop .inv .1 .long
+same-length-2 c = c .before .loop .inv .2 .long
 
 returns : tie.Need-returns Inv-loop μ-loop
-returns c = listed (c .before .before .before .before .before .before .before .before .before .pre .0) (c .before .loop .inv .1) (c .loop-test .left) (c .before .before .before .before .before .before .before .before .before .pre .1 .1 .4)
+returns c = listed (c .before .before .before .before .before .before .before .before .before .pre .0) (c .before .loop .inv .2) (c .loop-test .left) (c .before .before .before .before .before .before .before .before .before .pre .1 .1 .4)
 
 pub put-each-spec : {M : Type 1} → statement M
 put-each-spec =
@@ -94,6 +97,7 @@ put-each-spec =
     reach-all-requires
     slice-aggregate-walk
     slice-aggregate-walk-2
+    slice-aggregate-walk-3
     walk-requires
     add-i
     loop-less

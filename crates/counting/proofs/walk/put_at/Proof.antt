@@ -1,7 +1,7 @@
 -- `counting::walk::put_at` meets its contract: the row written at the start of the part stands there in the whole list.
 use native.Mathlib.Omega.{arith}
 use Prim.Native.Nat.{_*_}
-use Rattle.counting.proofs.Walking.{pasted}
+use Rattle.matching.specs.Laws.Lending.{row-pasted}
 use borrow.Author.Needs.{needs}
 use Rattle.counting.proofs.walk.put_at.Statement.{statement}
 use Rattle.counting.proofs.walk.put_at.Tie as tie
@@ -28,7 +28,7 @@ same-length : tie.Need-same-length
 same-length c = search needs
 
 returns : tie.Need-returns
-returns c = let a = (c .before .before .before .before .before .args) in pasted (a .list .now) (a .k * a .m) (omega (arith, c .before .before .before .before .before .pre .1)) (a .row) (c .before .before .put-row .last .0) (a .m) (c .before .before .before .before .before .pre .0) (c .before .before .before .before .before .pre .1) (c .before .before .put-row .ensures)
+returns c = let start = c .before .before .before .before .before .before in let a = start .args in row-pasted (a .list .now) (a .k * a .m) (omega (arith, start .pre .1)) (a .row .now) (c .before .before .put-row .last .0) (a .m) (start .pre .0) (start .pre .1) (c .before .before .put-row .ensures)
 
 pub put-at-spec : {M : Type 1} → statement M
 put-at-spec =

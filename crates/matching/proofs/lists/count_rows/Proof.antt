@@ -1,38 +1,59 @@
 -- `count_rows` meets its contract. The invariant: the k rows found so far are where the greedy list begins.
 use native.Mathlib.Omega.{arith}
 use Prim.Native.Nat.{_-_}
-use borrow.Author.Tests.{not-true, not-false}
 use Rattle.matching.specs.Occurrence.{at}
 use Rattle.matching.specs.Steps.Turning.{seen}
+use Rattle.matching.proofs.Laying.{plan}
 use Rattle.matching.proofs.Finding.{Counted, counted-begin, counted-end, counted-few, counted-less, counted-more}
+use borrow.Author.Needs.{needs}
 use Rattle.matching.proofs.lists.count_rows.Statement.{statement}
 use Rattle.matching.proofs.lists.count_rows.Tie as tie
 
 abbrev Inv-loop : tie.InvT-loop
-Inv-loop g text mirrored marks₀ k₀ marks k = Counted g (seen mirrored text) marks k
+Inv-loop g text mirrored layout row₀ k₀ row k = Counted g (seen mirrored text) row k
 
 abbrev μ-loop : tie.MeasureT-loop
-μ-loop g text mirrored marks₀ k₀ marks k = 20001 - at marks 0
+μ-loop g text mirrored layout row₀ k₀ row k = 20001 - at row 0
+
+lay-out-requires : tie.Need-lay-out-requires Inv-loop μ-loop
+lay-out-requires c κs = (c .before .pre) .few
 
 loop-holds : tie.Need-loop-holds Inv-loop μ-loop
-loop-holds c = counted-begin (c .before .args .g) (seen (c .before .args .mirrored) (c .before .args .text .now)) (c .before .pre .few)
+loop-holds c = counted-begin ((c .before .before .args) .g) (seen ((c .before .before .args) .mirrored) ((c .before .before .args) .text .now)) ((c .before .before .pre) .few)
 
-search-requires : tie.Need-search-requires Inv-loop μ-loop
-search-requires c κs = (c .before .before .pre)
+slice-aggregate-advance : tie.Need-slice-aggregate-advance Inv-loop μ-loop
+slice-aggregate-advance c = search needs
 
-returns : tie.Need-returns Inv-loop μ-loop
-returns c = (counted-end (c .before .before .loop .inv) (c .before .before .before .before .pre) (c .before .search .ensures) (not-true _ (c .if1 .taken)), counted-few (c .before .before .loop .inv) (c .before .before .before .before .pre))
+slice-aggregate-advance-2 : tie.Need-slice-aggregate-advance-2 Inv-loop μ-loop
+slice-aggregate-advance-2 c = search needs
+
+advance-requires : tie.Need-advance-requires Inv-loop μ-loop
+advance-requires c κs = (plan (c .before .before .before .before .before .pre) ((c .before .before .before .lay-out) .ensures), (c .before .before .loop) .inv .spare)
 
 add-k : tie.Need-add-k Inv-loop μ-loop
-add-k c = omega (arith, counted-few (c .before .before .before .loop .inv) (c .before .before .before .before .before .pre))
+add-k c = omega (arith, counted-few ((c .before .before .before .before .before .loop) .inv) (c .before .before .before .before .before .before .before .before .pre))
 
 loop-less : tie.Need-loop-less Inv-loop μ-loop
-loop-less c = counted-less (c .before .before .before .loop .inv) (c .before .before .before .before .before .pre) (c .before .before .search .ensures) (not-false _ (c .before .if1 .left))
+loop-less c = counted-less ((c .before .before .before .before .before .loop) .inv) (c .before .before .before .before .before .before .before .before .pre) ((c .before .before .advance) .ensures (plan (c .before .before .before .before .before .before .before .before .pre) ((c .before .before .before .before .before .before .lay-out) .ensures))) ((c .if1) .taken)
 
 loop-again : tie.Need-loop-again Inv-loop μ-loop
-loop-again c = counted-more (c .before .before .before .loop .inv) (c .before .before .before .before .before .pre) (c .before .before .search .ensures) (not-false _ (c .before .if1 .left))
+loop-again c = counted-more ((c .before .before .before .before .before .loop) .inv) (c .before .before .before .before .before .before .before .before .pre) ((c .before .before .advance) .ensures (plan (c .before .before .before .before .before .before .before .before .pre) ((c .before .before .before .before .before .before .lay-out) .ensures))) ((c .if1) .taken)
+
+returns : tie.Need-returns Inv-loop μ-loop
+returns c = (counted-end ((c .before .before .before .before .before .loop) .inv) (c .before .before .before .before .before .before .before .before .pre) ((c .before .before .advance) .ensures (plan (c .before .before .before .before .before .before .before .before .pre) ((c .before .before .before .before .before .before .lay-out) .ensures))) ((c .if1) .left), counted-few ((c .before .before .before .before .before .loop) .inv) (c .before .before .before .before .before .before .before .before .pre))
 
 pub count-rows-spec : {M : Type 1} → statement M
 count-rows-spec =
     tie.close
-    (tie.spec Inv-loop μ-loop loop-holds search-requires returns add-k loop-less loop-again)
+    (tie.spec
+    Inv-loop
+    μ-loop
+    lay-out-requires
+    loop-holds
+    slice-aggregate-advance
+    slice-aggregate-advance-2
+    advance-requires
+    add-k
+    loop-less
+    loop-again
+    returns)

@@ -29,7 +29,7 @@ lists-requires : tie.Need-lists-requires Inv-loop μ-loop
 lists-requires c κs = search needs
 
 returns : tie.Need-returns Inv-loop μ-loop
-returns c = let a = c .before .before .before .before .before .before .args in record { low = search needs; hit = λ _. told (a .words) (a .count) (c .before .before .word .ensures) (c .before .lists .ensures) (c .if1 .taken); none = c .before .before .before .before .loop .inv .1 }
+returns c = let a = c .before .before .before .before .before .before .before .args in record { low = search needs; hit = λ _. told (a .words .now) (a .count) (c .before .before .word .ensures) (c .before .lists .ensures) (c .if1 .taken); none = c .before .before .before .before .loop .inv .1 }
 
 add-p : tie.Need-add-p Inv-loop μ-loop
 add-p c = search needs
@@ -38,10 +38,10 @@ loop-less : tie.Need-loop-less Inv-loop μ-loop
 loop-less c = search needs
 
 loop-again : tie.Need-loop-again Inv-loop μ-loop
-loop-again c = let a = c .before .before .before .before .before .before .args in (search needs, first-more (a .words) (a .count) (seen (a .mirrored) (a .text .now)) (a .from) _ (c .before .before .word .ensures) (c .before .lists .ensures) (c .if1 .left) (c .before .before .before .before .loop .inv .1))
+loop-again c = let a = c .before .before .before .before .before .before .before .args in (search needs, first-more (a .words .now) (a .count) (seen (a .mirrored) (a .text .now)) (a .from) _ (c .before .before .word .ensures) (c .before .lists .ensures) (c .if1 .left) (c .before .before .before .before .loop .inv .1))
 
 returns-2 : tie.Need-returns-2 Inv-loop μ-loop
-returns-2 c = let a = c .before .before .before .args in record { low = search needs; hit = λ h. absurd (omega (arith, length-seen (a .mirrored) (a .text .now))); none = c .before .loop .inv .1 }
+returns-2 c = let a = c .before .before .before .before .args in record { low = search needs; hit = λ h. absurd (omega (arith, length-seen (a .mirrored) (a .text .now))); none = c .before .loop .inv .1 }
 
 pub first-spec : {M : Type 1} → statement M
 first-spec =

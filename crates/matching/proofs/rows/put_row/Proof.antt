@@ -12,10 +12,10 @@ use Rattle.matching.proofs.rows.put_row.Statement.{statement}
 use Rattle.matching.proofs.rows.put_row.Tie as tie
 
 abbrev Inv-loop : tie.InvT-loop
-Inv-loop list₀ n row i₀ list i = (i ≤ n) × ((length list ≡ length list₀) × (list ≡ paste list₀ 0 row i))
+Inv-loop list₀ row n i₀ list i = (i ≤ n) × ((length list ≡ length list₀) × (list ≡ paste list₀ 0 row i))
 
 abbrev μ-loop : tie.MeasureT-loop
-μ-loop list₀ n row i₀ list i = n - i
+μ-loop list₀ row n i₀ list i = n - i
 
 returns : tie.Need-returns Inv-loop μ-loop
 returns c = simp (lt-ltb _ _ (c .if1 .taken))
@@ -24,13 +24,13 @@ returns-2 : tie.Need-returns-2 Inv-loop μ-loop
 returns-2 c = simp (le-ltb _ _ (c .before .if1 .left), lt-ltb _ _ (c .if2 .taken))
 
 loop-holds : tie.Need-loop-holds Inv-loop μ-loop
-loop-holds c = (search needs, (refl, paste-zero (c .before .before .args .list .now) 0 (c .before .before .args .t2)))
+loop-holds c = (search needs, (refl, paste-zero (c .before .before .args .list .now) 0 (c .before .before .args .row .now)))
 
 mul-list : tie.Need-mul-list Inv-loop μ-loop
 mul-list c = search needs
 
-array-read-list : tie.Need-array-read-list Inv-loop μ-loop
-array-read-list c = search needs
+shared-slice-read-list : tie.Need-shared-slice-read-list Inv-loop μ-loop
+shared-slice-read-list c = search needs
 
 mul-list-2 : tie.Need-mul-list-2 Inv-loop μ-loop
 mul-list-2 c = search needs
@@ -45,14 +45,14 @@ loop-less : tie.Need-loop-less Inv-loop μ-loop
 loop-less c = search needs
 
 loop-again : tie.Need-loop-again Inv-loop μ-loop
-loop-again c = let l = (c .before .loop) in let a = (c .before .before .before .before .args) in let long : length (a .t2) ≡ 16 = c .before .before .before .before .good .1 .0 .1 .0 .1 in (omega arith, (simp length-set (l .inv .1 .0), ap (λ (o : List ℕ). set o (l .i) (getD (a .t2) (l .i) 0)) (l .inv .1 .1) ∙ pasted-more (a .list .now) (a .t2) (l .i) (omega arith) (omega arith)))
+loop-again c = let l = (c .before .before .loop) in let a = (c .before .before .before .before .before .args) in (omega arith, (simp length-set (l .inv .1 .0), ap (λ (o : List ℕ). set o (l .i) (getD (a .row .now) (l .i) 0)) (l .inv .1 .1) ∙ pasted-more (a .list .now) (a .row .now) (l .i) (omega arith) (omega arith)))
 
 same-length : tie.Need-same-length Inv-loop μ-loop
 same-length c = search needs
 
 returns-3 : tie.Need-returns-3 Inv-loop μ-loop
 returns-3 c = let l = (c .before .loop) in let a = (c .before .before .before .before .args) in let e : 0 + l .i ≡ a .n = omega arith in let f : l .i ≡ a .n = omega arith in
-    simp (le-ltb _ _ (c .before .before .before .if1 .left), le-ltb _ _ (c .before .before .if2 .left)) (l .inv .1 .1 ∙ ap (λ (k : ℕ). take (l .i) (a .t2) ++ drop k (a .list .now)) e ∙ ap (λ (k : ℕ). take k (a .t2) ++ drop (a .n) (a .list .now)) f)
+    simp (le-ltb _ _ (c .before .before .before .if1 .left), le-ltb _ _ (c .before .before .if2 .left)) (l .inv .1 .1 ∙ ap (λ (k : ℕ). take (l .i) (a .row .now) ++ drop k (a .list .now)) e ∙ ap (λ (k : ℕ). take k (a .row .now) ++ drop (a .n) (a .list .now)) f)
 
 pub put-row-spec : {M : Type 1} → statement M
 put-row-spec =
@@ -64,7 +64,7 @@ put-row-spec =
     returns-2
     loop-holds
     mul-list
-    array-read-list
+    shared-slice-read-list
     mul-list-2
     slice-write-list
     add-i

@@ -2,7 +2,7 @@
 use native.Mathlib.Omega.{arith}
 use mathlib.Core.Path.{sym, _∙_}
 use Rattle.matching.specs.Laws.Ready.{RowAccepted, row-accepted}
-use Rattle.matching.proofs.Answering.{first-shown}
+use Rattle.matching.proofs.Answering.{copied-spare, first-shown}
 use borrow.Author.Needs.{needs}
 use Rattle.matching.proofs.searches.first_after.Statement.{statement}
 use Rattle.matching.proofs.searches.first_after.Tie as tie
@@ -26,7 +26,7 @@ row-of-requires : tie.Need-row-of-requires
 row-of-requires c κs = let a = accepted ((c)) in omega (arith, a .size, a .ready .few)
 
 search-requires : tie.Need-search-requires
-search-requires c κs = accepted ((c .before)) .ready
+search-requires c κs = (accepted (c .before) .ready, copied-spare (accepted (c .before) .size) (c .row-of .ensures))
 
 shown-requires : tie.Need-shown-requires
 shown-requires c κs = search needs

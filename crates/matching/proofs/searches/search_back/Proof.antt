@@ -1,6 +1,6 @@
 -- `search_back` meets its contract: the earliest in the mirrored text is the latest here.
 use Rattle.matching.specs.Laws.Turning.{turned-ready}
-use Rattle.matching.proofs.Answering.{back-found, back-none}
+use Rattle.matching.proofs.Answering.{flipped-spare, back-found, back-none}
 use Rattle.matching.proofs.searches.search_back.Statement.{statement}
 use Rattle.matching.proofs.searches.search_back.Tie as tie
 
@@ -11,7 +11,7 @@ flipped-requires : tie.Need-flipped-requires
 flipped-requires c κs = (c .before .before .pre .few, c .before .before .pre .short)
 
 search-requires : tie.Need-search-requires
-search-requires c κs = turned-ready (c .before .turned .ensures) (c .before .before .before .pre)
+search-requires c κs = (turned-ready (c .before .turned .ensures) (c .before .before .before .pre), flipped-spare (c .before .turned .ensures .count) (c .flipped .ensures))
 
 flipped-requires-2 : tie.Need-flipped-requires-2
 flipped-requires-2 c κs = (c .before .before .before .before .before .before .pre .few, c .before .before .before .before .before .before .pre .short)
