@@ -1,8 +1,8 @@
 -- `counting::listing::all` meets its contract: the list is too short exactly where it has room for fewer rows than there are.
 use native.Mathlib.Omega.{arith}
-use Prim.Native.Nat.{_<_, _^_}
+use Prim.Native.Nat.{ℕ, _<_, _^_}
 use mathlib.Core.Path.{sym, _∙_}
-use lib.ListN.{length}
+use lib.ListN.{length, length-replicate}
 use Rattle.counting.specs.Laws.Inputs.{passed}
 use Rattle.counting.proofs.Passes.{marks-new}
 use Rattle.counting.proofs.Answers.{all-refused, all-short, all-fine, all-wide, low-half, all-over, all-room}
@@ -23,7 +23,7 @@ enum-told : tie.Need-enum-told
 enum-told c = search needs
 
 slice-aggregate-mark : tie.Need-slice-aggregate-mark
-slice-aggregate-mark c = search needs
+slice-aggregate-mark c = sym (length-replicate {A = ℕ} 320000 0)
 
 mark-requires : tie.Need-mark-requires
 mark-requires c κs = (passed (c .before .before .before .before .before .before .args .text .now) (sym (c .before .before .before .check-with .ensures) ∙ c .before .enum-told .given .1), marks-new 320000)

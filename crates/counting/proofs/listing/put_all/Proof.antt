@@ -1,5 +1,7 @@
 -- `counting::listing::put_all` meets its contract: either way of writing does.
 use native.Mathlib.Omega.{arith}
+use Prim.Native.Nat.{ℕ}
+use lib.ListN.{length-replicate}
 use mathlib.Core.Path.{sym, _∙_}
 use Rattle.matching.specs.Laws.Cover.{width}
 use Rattle.counting.proofs.Passes.{marks-new}
@@ -14,7 +16,7 @@ unbound-requires : tie.Need-unbound-requires
 unbound-requires c κs = search needs
 
 slice-aggregate-put-whole : tie.Need-slice-aggregate-put-whole
-slice-aggregate-put-whole c = search needs
+slice-aggregate-put-whole c = sym (length-replicate {A = ℕ} 320016 0)
 
 put-whole-requires : tie.Need-put-whole-requires
 put-whole-requires c κs = (c .before .before .before .before .before .before .before .before .pre .0, (c .before .before .before .before .before .before .before .before .pre .1 .0, (sym (c .before .before .before .unbound .ensures) ∙ c .before .before .if1 .taken, c .before .before .before .before .farthest .ensures .0, marks-new 320016, c .before .before .before .before .before .before .before .before .pre .1 .1)))
@@ -35,7 +37,7 @@ clip-requires : tie.Need-clip-requires
 clip-requires c κs = search needs
 
 slice-aggregate-put-each : tie.Need-slice-aggregate-put-each
-slice-aggregate-put-each c = search needs
+slice-aggregate-put-each c = sym (length-replicate {A = ℕ} 320016 0)
 
 put-each-requires : tie.Need-put-each-requires
 unfolding width

@@ -1,4 +1,6 @@
 -- `counting::total::tally` meets its contract: the number is over 2 ^ 64 - 1 exactly where the high half is not 0.
+use Prim.Native.Nat.{ℕ}
+use lib.ListN.{length-replicate}
 use mathlib.Core.Path.{sym, _∙_}
 use Rattle.counting.specs.Laws.Inputs.{passed}
 use Rattle.counting.proofs.Passes.{marks-new}
@@ -20,7 +22,7 @@ enum-told : tie.Need-enum-told
 enum-told c = search needs
 
 slice-aggregate-mark : tie.Need-slice-aggregate-mark
-slice-aggregate-mark c = search needs
+slice-aggregate-mark c = sym (length-replicate {A = ℕ} 320000 0)
 
 mark-requires : tie.Need-mark-requires
 mark-requires c κs = (passed (c .before .before .before .before .before .args .text .now) (sym (c .before .before .before .check-with .ensures) ∙ c .before .enum-told .given .1), marks-new 320000)
