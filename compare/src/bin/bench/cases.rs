@@ -1,7 +1,7 @@
 //! The measured cases: a selection of texts, slots, gaps, spans and calls.
 
 use crate::calls::{by_hand, fail, library, room, Call};
-use crate::clock::{alone, rivals};
+use crate::clock::{rivals, Compared};
 use crate::netback::{netback, Visits};
 use crate::texts::{pattern, span_limits, text, Kind, Spans, WORDS};
 use compare::layout::Pattern;
@@ -27,11 +27,12 @@ pub struct Ready {
     pub list: Vec<u16>,
 }
 
-/// What NetBack did with a case: its rows, whether they are the front list, and its time.
+/// What NetBack did with a case: its rows, whether they are the front list, its time, and how many times the library's that is.
 pub struct Rival {
     pub rows: usize,
     pub same: bool,
     pub ms: f64,
+    pub times: f64,
 }
 
 /// NetBack as written and with one visit to a node; nothing where it took longer than its limit.
@@ -40,12 +41,13 @@ pub struct Rivals {
     pub once: Option<Rival>,
 }
 
-/// What was measured of a case, in milliseconds; NetBack for the front list only.
+/// What was measured of a case, in milliseconds, with the library's ratio to by hand; NetBack for the front list only.
 pub struct Measured {
     pub case: Case,
     pub value: Option<u64>,
     pub library: f64,
     pub by_hand: f64,
+    pub ratio: f64,
     pub netback: Option<Rivals>,
 }
 
@@ -85,9 +87,9 @@ impl Case {
             .then(|| Rivals { any: ready.netback(Visits::Any, value), once: ready.netback(Visits::Once, value) });
         let Ready { call, pattern, text, list } = &mut ready;
         let mut other = list.clone();
-        let (library, by_hand) =
+        let Compared { one, other, ratio } =
             rivals(|| library(*call, pattern, text, list), || by_hand(*call, pattern, text, &mut other));
-        Measured { case: *self, value, library, by_hand, netback }
+        Measured { case: *self, value, library: one, by_hand: other, ratio, netback }
     }
 }
 
@@ -102,13 +104,16 @@ impl Ready {
         by_hand(self.call, &self.pattern, &self.text, &mut self.list)
     }
 
-    /// Runs NetBack within its limit, and compares its rows with the front list, which has so many and is written.
+    /// Runs NetBack within its limit, and compares it with the front list, which has so many rows and is written.
     fn netback(&self, visits: Visits, front: Option<u64>) -> Option<Rival> {
         let found = netback(&self.pattern, &self.text, visits, LIMIT_MS)?;
         let rows = found.len() / self.pattern.count;
         let same = front == Some(rows as u64) && self.list.starts_with(&found);
-        let ms = alone(|| netback(&self.pattern, &self.text, visits, LIMIT_MS));
-        Some(Rival { rows, same, ms })
+        let Ready { call, pattern, text, list } = self;
+        let mut list = list.clone();
+        let Compared { one, ratio, .. } =
+            rivals(|| netback(pattern, text, visits, LIMIT_MS), || library(*call, pattern, text, &mut list));
+        Some(Rival { rows, same, ms: one, times: ratio })
     }
 }
 

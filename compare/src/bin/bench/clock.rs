@@ -42,16 +42,25 @@ fn median(mut times: Vec<f64>) -> f64 {
     times[times.len() / 2]
 }
 
-/// The milliseconds of one call of each of two rivals, run by turns so that a change of the machine's speed hits both.
-pub fn rivals<A, B>(mut one: impl FnMut() -> A, mut other: impl FnMut() -> B) -> (f64, f64) {
+/// Two rivals: the milliseconds of one call of each, and how many times as long as the other the one takes.
+pub struct Compared {
+    pub one: f64,
+    pub other: f64,
+    pub ratio: f64,
+}
+
+/// Runs two rivals by turns. The ratio is the median over the turns, so that a change of the machine's speed hardly touches it.
+pub fn rivals<A, B>(mut one: impl FnMut() -> A, mut other: impl FnMut() -> B) -> Compared {
     let (calls_one, calls_other) = (run_length(&mut one), run_length(&mut other));
-    let (mut times_one, mut times_other) = (Vec::new(), Vec::new());
+    let (mut times_one, mut times_other, mut ratios) = (Vec::new(), Vec::new(), Vec::new());
     let end = cpu_ms() + 2.0 * TOTAL_MS;
-    while times_one.len() < RUNS || cpu_ms() < end {
-        times_one.push(timed(&mut one, calls_one));
-        times_other.push(timed(&mut other, calls_other));
+    while ratios.len() < RUNS || cpu_ms() < end {
+        let (time_one, time_other) = (timed(&mut one, calls_one), timed(&mut other, calls_other));
+        times_one.push(time_one);
+        times_other.push(time_other);
+        ratios.push(time_one / time_other);
     }
-    (median(times_one), median(times_other))
+    Compared { one: median(times_one), other: median(times_other), ratio: median(ratios) }
 }
 
 /// The milliseconds of one call.

@@ -24,8 +24,8 @@ use texts::WORDS;
 fn rival_cells(rival: &Option<Rival>, library: f64) -> String {
     match rival {
         None => format!("> {LIMIT_MS:.0} | > {:.0} |", LIMIT_MS / library),
-        Some(Rival { same: true, ms, .. }) => format!("{ms:.2} | {:.1} |", ms / library),
-        Some(Rival { rows, ms, .. }) => format!("{ms:.2} ({rows} rows) | {:.1} |", ms / library),
+        Some(Rival { same: true, ms, times, .. }) => format!("{ms:.2} | {times:.1} |"),
+        Some(Rival { rows, ms, times, .. }) => format!("{ms:.2} ({rows} rows) | {times:.1} |"),
     }
 }
 
@@ -40,9 +40,8 @@ fn netback_cells(measured: &Measured) -> String {
 
 /// A line of the table.
 fn line(number: usize, measured: &Measured) -> String {
-    let Measured { case, value, library, by_hand, .. } = measured;
+    let Measured { case, value, library, by_hand, ratio, .. } = measured;
     let value = value.map_or("over 2^64 − 1".to_string(), |value| value.to_string());
-    let ratio = library / by_hand;
     let cells = format!("| {number} | {} | {value} | {library:.3} | {by_hand:.3} | {ratio:.2} |", case.describe());
     format!("{cells} {}", netback_cells(measured))
 }
