@@ -1,5 +1,5 @@
 -- The list as the rows are written into it, one after the other. Assumes nothing.
-use Prim.Native.Nat.{ℕ, _+_, _-_, _*_, _≤_, _<_}
+use Prim.Native.Nat.{ℕ, _+_, _*_, _≤_, _<_}
 use native.Mathlib.Omega.{arith}
 use native.Mathlib.Nat.{add-mul, one-mul, suc-mul, zero-mul, mul-le-mul-right, mul-le-mul}
 use mathlib.Core.List.{List, [], _∷_, _++_, append-assoc, append-nil}

@@ -18,7 +18,7 @@ fn words_in(count: usize) -> u16
 
 // Lays out a slot from the entry `at` on: its gap, how many words it lists, and its words.
 fn put_slot(layout: &mut [u16], at: usize, slot: Slot)
-    requires { ⌜ (at + 11 ≤ length (now layout)) × (at ≤ 165) ⌝ }
+    requires { ⌜ at + 11 ≤ length (now layout) ⌝ }
     ensures { λ _. ⌜ SlotLaid slot at (now (layout .entry)) (now (layout .exit)) ⌝ }
 {
     layout[at] = slot.low;

@@ -28,7 +28,7 @@ mul-put-slot : tie.Need-mul-put-slot Inv-loop μ-loop
 mul-put-slot c = omega (arith, (c .before .before .loop-test) .taken, (c .before .before .before .before .pre))
 
 put-slot-requires : tie.Need-put-slot-requires Inv-loop μ-loop
-put-slot-requires c κs = let l = (c .before .before .before .loop) .inv .size in (omega (arith, (c .before .before .loop-test) .taken, (c .before .before .before .before .pre)), omega (arith, (c .before .before .loop-test) .taken, (c .before .before .before .before .pre)))
+put-slot-requires c κs = let l = (c .before .before .before .loop) .inv .size in omega (arith, (c .before .before .loop-test) .taken, (c .before .before .before .before .pre))
 
 add-j : tie.Need-add-j Inv-loop μ-loop
 add-j c = search needs

@@ -1,7 +1,6 @@
 -- `put_slot` meets its contract: three entries are set, and the words stand past them as a row.
 use lib.ListN.{length-set}
 use native.Mathlib.Omega.{arith}
-use Prim.Native.Nat.{_-_}
 use Rattle.matching.proofs.Laying.{slot-size, slot-laid}
 use borrow.Author.Needs.{needs}
 use Rattle.matching.proofs.layout.put_slot.Statement.{statement}
