@@ -1,6 +1,5 @@
 -- `counting::halves::below` meets its contract: each branch is the test's case.
 use borrow.Author.Tests.{lt-ltb, le-ltb}
-use borrow.Author.Needs.{needs}
 use Rattle.counting.proofs.halves.below.Statement.{statement}
 use Rattle.counting.proofs.halves.below.Tie as tie
 
