@@ -1,15 +1,25 @@
 //! The library's calls: their declarations, and a thin safe wrapper for each.
 
-use crate::layout::{Answer, Cursors, Excerpted, Found, Made, Pattern, Served};
+use crate::layout::{Answer, Cursors, Excerpted, Found, LineEnds, Made, Pattern, ReadBoth, Served};
 
 extern "C" {
     fn bedbloomer_count(pattern: *const u8, pattern_bytes: usize, text: *const u8, text_bytes: usize) -> u32;
     fn bedbloomer_report(input: *const u8, input_bytes: usize, out: *mut u8, out_bytes: usize) -> usize;
     fn bedbloomer_read_pattern(bytes: *const u8, byte_count: usize) -> Made;
     fn bedbloomer_read_text(bytes: *const u8, byte_count: usize, words: *mut u16, word_count: usize) -> Answer;
+    fn bedbloomer_read_input(
+        pattern: *const u8,
+        pattern_bytes: usize,
+        text: *const u8,
+        text_bytes: usize,
+        words: *mut u16,
+        word_count: usize,
+    ) -> ReadBoth;
+    fn bedbloomer_line(bytes: *const u8, byte_count: usize, at: usize) -> LineEnds;
     fn bedbloomer_pattern_of(least: u16, most: u16) -> Pattern;
     fn bedbloomer_with_slot(pattern: Pattern, low: u16, high: u16, words: *const u16, word_count: usize) -> Made;
     fn bedbloomer_check(pattern: Pattern, words: usize) -> Answer;
+    fn bedbloomer_check_pattern(pattern: Pattern) -> Answer;
     fn bedbloomer_is_occurrence(
         pattern: Pattern,
         text: *const u16,
@@ -92,6 +102,18 @@ pub fn read_text(bytes: &[u8], words: &mut [u16]) -> Answer {
     unsafe { bedbloomer_read_text(bytes.as_ptr(), bytes.len(), words.as_mut_ptr(), words.len()) }
 }
 
+/// The pattern in a pattern file, and the words in a text file written to the start of `words`.
+pub fn read_input(pattern: &[u8], text: &[u8], words: &mut [u16]) -> ReadBoth {
+    let (pattern, pattern_bytes) = (pattern.as_ptr(), pattern.len());
+    let (text, text_bytes) = (text.as_ptr(), text.len());
+    unsafe { bedbloomer_read_input(pattern, pattern_bytes, text, text_bytes, words.as_mut_ptr(), words.len()) }
+}
+
+/// The line that begins at a byte: where it ends, and where the next begins.
+pub fn line(bytes: &[u8], at: usize) -> LineEnds {
+    unsafe { bedbloomer_line(bytes.as_ptr(), bytes.len(), at) }
+}
+
 /// A pattern without slots, with these span limits.
 pub fn pattern_of(least: u16, most: u16) -> Pattern {
     unsafe { bedbloomer_pattern_of(least, most) }
@@ -105,6 +127,11 @@ pub fn with_slot(pattern: &Pattern, low: u16, high: u16, words: &[u16]) -> Made 
 /// The tests of a pattern, and of a text of so many words.
 pub fn check(pattern: &Pattern, words: usize) -> Answer {
     unsafe { bedbloomer_check(*pattern, words) }
+}
+
+/// The tests of a pattern.
+pub fn check_pattern(pattern: &Pattern) -> Answer {
+    unsafe { bedbloomer_check_pattern(*pattern) }
 }
 
 /// Whether a row is an occurrence.

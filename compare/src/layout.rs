@@ -38,6 +38,24 @@ pub struct Made {
     pub pattern: Pattern,
 }
 
+/// A pattern and how many words were written, beside a refusal with its place or 0 0.
+#[repr(C)]
+#[derive(Clone, Copy, Debug, PartialEq, Eq)]
+pub struct ReadBoth {
+    pub number: u32,
+    pub place: usize,
+    pub words: u64,
+    pub pattern: Pattern,
+}
+
+/// Where a line's bytes end, and where the next line begins.
+#[repr(C)]
+#[derive(Clone, Copy, Debug, PartialEq, Eq)]
+pub struct LineEnds {
+    pub end: usize,
+    pub next: usize,
+}
+
 /// What a search found.
 #[repr(C)]
 #[derive(Clone, Copy, Debug, PartialEq, Eq)]

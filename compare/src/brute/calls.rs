@@ -160,6 +160,11 @@ pub fn check(pattern: &Pattern, words: usize) -> Answer {
     answer(tested.map(|()| 0))
 }
 
+/// The tests of a pattern alone; the answer's value is 0.
+pub fn check_pattern(pattern: &Pattern) -> Answer {
+    answer(test_pattern(pattern).map(|()| 0))
+}
+
 /// Writes rows one after another to the start of a list; if it is too short, refuses with 8 and this place.
 fn write(rows: &[Row], list: &mut [u16], place: usize) -> Result<u64, Refusal> {
     let entries = rows.concat();

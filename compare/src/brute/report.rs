@@ -3,7 +3,7 @@
 use super::calls::Brute;
 use super::refusal::{refuse, Refusal};
 use super::rows::Row;
-use super::sheets::{read_pattern, read_text, test_bytes};
+use super::sheets::{read_both, read_pattern, read_text, test_bytes};
 
 /// The count for a pattern file and a text file, or 100,000 plus the refusal's number.
 pub fn count(pattern: &[u8], text: &[u8]) -> u32 {
@@ -15,10 +15,7 @@ pub fn count(pattern: &[u8], text: &[u8]) -> u32 {
 
 /// The count for a pattern file and a text file.
 fn counted(pattern: &[u8], text: &[u8]) -> Result<usize, Refusal> {
-    test_bytes(pattern.len())?;
-    test_bytes(text.len())?;
-    let pattern = read_pattern(pattern)?;
-    let text = read_text(text, usize::MAX)?;
+    let (pattern, text) = read_both(pattern, text, usize::MAX)?;
     Ok(Brute::windowed(&pattern, &text).front()?.len())
 }
 

@@ -4,6 +4,7 @@ use super::occurrences::occurrences;
 use super::*;
 use crate::cases::files::{plain_pattern_file, text_file};
 use crate::cases::inputs::sevens;
+use crate::cases::lines::small_files;
 use crate::cases::random::{any_marks, any_pattern, any_text, Kind};
 use crate::cases::small::{patterns, texts, tuples};
 use crate::cases::tallies::{one_below_power, power, sixteen_words, thresholds};
@@ -63,6 +64,7 @@ fn refusals_of_calls() {
     assert_eq!(refused("1 20000", "0 0 7\n3 2 7\n"), (4, 2));
     assert_eq!(refused("0 5", "0 0 7\n"), (5, 0));
     assert_eq!(check(&accepted, 20_001).number, 6);
+    assert_eq!([check_pattern(&pattern_of(1, 20_000)).number, check_pattern(&accepted).number], [1, 0]);
     let text = [7, 7, 7, 7];
     let brute = Brute::enumerated(&accepted, &text);
     assert_eq!(brute.first_after(&[0, 0]).number, 7);
@@ -94,6 +96,53 @@ fn refusals_of_files_and_cursors() {
     }
     let served = brute.next(&cursors, 4);
     assert_eq!((served.number, served.cursors), (15, cursors));
+}
+
+/// What two files are refused with, three words lent; a refusal gives a new pattern and no words, and writes none.
+fn refused_both(pattern: &[u8], text: &[u8]) -> (u32, usize) {
+    let mut words = [9; 3];
+    let read = both_from_sheets(pattern, text, &mut words);
+    assert_eq!((read.words, read.pattern, words), (0, pattern_of(1, 20_000), [9; 3]));
+    (read.number, read.place)
+}
+
+/// Two files in one call: 12 of either, then the whole pattern file, then the text file, each with its own lines.
+#[test]
+fn refusals_of_two_files() {
+    let good = b"least most\n1 20000\nlow high words\n0 0 7\n";
+    let (long, short_span) = ([b'7'; 60_001], b"least most\n0 5\nlow high words\n0 0 7\n");
+    assert_eq!(refused_both(&long, b"word\n"), (12, 0));
+    assert_eq!(refused_both(b"", &long), (12, 0));
+    assert_eq!(refused_both(b"", b""), (10, 1));
+    assert_eq!(refused_both(short_span, b"words\n"), (5, 0));
+    assert_eq!(refused_both(good, b"words\n"), (10, 1));
+    assert_eq!(refused_both(good, b"word\n7\n07\n"), (11, 3));
+    assert_eq!(refused_both(good, b"word\n7\n7\n7\n7\n"), (13, 0));
+    let mut words = [9; 3];
+    let read = both_from_sheets(good, b"word\n7\n8\n", &mut words);
+    assert_eq!((read.number, read.place, read.words), (0, 0, 2));
+    assert_eq!((read.pattern, words), (pattern(ANY_SPAN, &sevens(1, 0, 0)), [7, 8, 9]));
+}
+
+/// Lines by what they are made of: closed, empty, open, and past the end.
+#[test]
+fn ends_of_lines() {
+    let ends = |bytes: &[u8], at| {
+        let found = line(bytes, at);
+        (found.end, found.next)
+    };
+    assert_eq!([0, 1, 2, 3, 4].map(|at| ends(b"7\r\n\n8", at)), [(2, 3), (2, 3), (2, 3), (3, 4), (5, 5)]);
+    assert_eq!([5, 6, usize::MAX].map(|at| ends(b"7\r\n\n8", at)), [5, 6, usize::MAX].map(|at| (at, at)));
+    assert_eq!([0, 1].map(|at| ends(b"", at)), [(0, 0), (1, 1)]);
+    for file in small_files() {
+        let mut begun = 0;
+        for whole in file.split_inclusive(|&byte| byte == b'\n') {
+            let (end, next) = ends(&file, begun);
+            assert_eq!((&file[begun..next], next - end), (whole, usize::from(whole.ends_with(b"\n"))));
+            begun = next;
+        }
+        assert_eq!(begun, file.len());
+    }
 }
 
 /// The texts made for the tally's limit stand exactly there.

@@ -2,7 +2,7 @@
 
 use super::limits::{pattern_of, push_slot, test_slot, test_slot_count, test_span, test_text};
 use super::refusal::{answer, refuse, Refusal};
-use crate::layout::{Answer, Made, Pattern};
+use crate::layout::{Answer, Made, Pattern, ReadBoth};
 
 /// Refuses files of more than 60,000 bytes.
 pub fn test_bytes(bytes: usize) -> Result<(), Refusal> {
@@ -57,6 +57,13 @@ pub fn read_text(bytes: &[u8], room: usize) -> Result<Vec<u16>, Refusal> {
     Ok(words)
 }
 
+/// The pattern and the words in two files that come in one call, the words not more than there is room for.
+pub fn read_both(pattern: &[u8], text: &[u8], room: usize) -> Result<(Pattern, Vec<u16>), Refusal> {
+    test_bytes(pattern.len())?;
+    test_bytes(text.len())?;
+    Ok((read_pattern(pattern)?, read_text(text, room)?))
+}
+
 /// The pattern in a pattern file, or beside a refusal a new pattern.
 pub fn made_from_sheet(bytes: &[u8]) -> Made {
     match read_pattern(bytes) {
@@ -72,6 +79,18 @@ pub fn words_from_sheet(bytes: &[u8], words: &mut [u16]) -> Answer {
         words[..read.len()].copy_from_slice(read);
     }
     answer(read.map(|read| read.len() as u64))
+}
+
+/// The pattern in a pattern file, the words in a text file written to the start of `words`; beside a refusal a new
+/// pattern, no words, and nothing written.
+pub fn both_from_sheets(pattern: &[u8], text: &[u8], words: &mut [u16]) -> ReadBoth {
+    match read_both(pattern, text, words.len()) {
+        Ok((pattern, read)) => {
+            words[..read.len()].copy_from_slice(&read);
+            ReadBoth { number: 0, place: 0, words: read.len() as u64, pattern }
+        }
+        Err(Refusal { number, place }) => ReadBoth { number, place, words: 0, pattern: pattern_of(1, 20_000) },
+    }
 }
 
 /// The bytes as letters, one for each byte.

@@ -2,6 +2,7 @@
 
 pub mod files;
 pub mod inputs;
+pub mod lines;
 pub mod random;
 pub mod small;
 pub mod tallies;

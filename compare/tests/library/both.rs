@@ -42,7 +42,7 @@ impl<'a, S: Searcher> Both<'a, S> {
     /// Compares an answer that comes without a list.
     fn answered(&mut self, library: Answer, brute: Answer, call: &str) {
         self.agree(&library, &brute, || call.to_string());
-        self.run.call(library.number);
+        self.run.call(call, library.number);
     }
 
     /// Compares the tests of the limits.
@@ -71,13 +71,13 @@ impl<'a, S: Searcher> Both<'a, S> {
         let library = ffi::is_occurrence(pattern, text, row);
         let brute = self.brute.is_occurrence(row);
         self.agree(&library, &brute, || format!("is_occurrence {row:?}"));
-        self.run.call(library.number);
+        self.run.call("is_occurrence", library.number);
         let length = self.brute.excerpt(row, 0).length;
         for index in (0..=length).chain([usize::MAX]) {
             let library = ffi::excerpt(pattern, text, row, index);
             let brute = self.brute.excerpt(row, index);
             self.agree(&library, &brute, || format!("excerpt {row:?} at {index}"));
-            self.run.call(0);
+            self.run.call("excerpt", 0);
         }
     }
 
@@ -91,7 +91,7 @@ impl<'a, S: Searcher> Both<'a, S> {
             let library = library(self.brute.pattern, self.brute.text, marks);
             let brute = brute(&self.brute, marks);
             self.agree(&library, &brute, || format!("{name} {marks:?}"));
-            self.run.call(library.number);
+            self.run.call(name, library.number);
         }
     }
 
@@ -126,7 +126,7 @@ impl<'a, S: Searcher> Both<'a, S> {
         let call = || format!("{name} with {room} entries lent");
         self.agree(&library, &brute, call);
         self.agree(&lent, &expected, call);
-        self.run.call(library.number);
+        self.run.call(name, library.number);
     }
 
     /// Compares the next occurrence for a client, and gives the state after it.
@@ -135,13 +135,14 @@ impl<'a, S: Searcher> Both<'a, S> {
         let library = ffi::next(cursors, client, pattern, text);
         let brute = self.brute.next(cursors, client);
         self.agree(&library, &brute, || format!("next for {client} from {cursors:?}"));
-        self.run.call(library.number);
+        self.run.call("next", library.number);
         library.cursors
     }
 
     /// Compares each call once or more, with these marks, which also serve as a row.
     pub fn every_call(&mut self, marks: &[u16], cursors: &Cursors, client: usize) {
         self.check();
+        check_pattern(self.run, self.brute.pattern);
         self.numbers();
         self.row(marks);
         self.searches(marks);
@@ -163,7 +164,21 @@ pub fn check(run: &mut Run, pattern: &Pattern, words: usize) {
     let (library, brute) = (ffi::check(pattern, words), brute::check(pattern, words));
     let case = || format!("check with {words} words\npattern: {pattern:?}");
     run.agree(&library, &brute, case);
-    run.call(library.number);
+    run.call("check", library.number);
+}
+
+/// Compares the tests of a pattern alone.
+pub fn check_pattern(run: &mut Run, pattern: &Pattern) {
+    let (library, brute) = (ffi::check_pattern(pattern), brute::check_pattern(pattern));
+    run.agree(&library, &brute, || format!("check_pattern\npattern: {pattern:?}"));
+    run.call("check_pattern", library.number);
+}
+
+/// Compares a new pattern with these span limits.
+pub fn pattern_of(run: &mut Run, least: u16, most: u16) {
+    let (library, brute) = (ffi::pattern_of(least, most), brute::pattern_of(least, most));
+    run.agree(&library, &brute, || format!("pattern_of {least} {most}"));
+    run.call("pattern_of", 0);
 }
 
 /// Compares adding a slot to a pattern.
@@ -172,7 +187,7 @@ pub fn with_slot(run: &mut Run, pattern: &Pattern, low: u16, high: u16, words: &
     let brute = brute::with_slot(pattern, low, high, words);
     let case = || format!("with_slot {low} {high} {words:?}\npattern: {pattern:?}");
     run.agree(&library, &brute, case);
-    run.call(library.number);
+    run.call("with_slot", library.number);
 }
 
 /// Compares setting a client's marks to 0, and gives the state after it.
@@ -181,6 +196,6 @@ pub fn rewind(run: &mut Run, cursors: &Cursors, client: usize) -> Cursors {
     let brute = brute::rewind(cursors, client);
     let case = || format!("rewind {client} from {cursors:?}");
     run.agree(&library, &brute, case);
-    run.call(library.number);
+    run.call("rewind", library.number);
     library.cursors
 }

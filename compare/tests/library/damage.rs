@@ -4,7 +4,7 @@ use compare::cases::files::{damage, damages_at, input, pattern_file, text_file, 
 use compare::cases::pattern;
 use compare::rng::Rng;
 
-use crate::files::{count, read_pattern, read_text, report};
+use crate::files::{lines, pair, read_pattern, read_text, report};
 use crate::run::Run;
 
 /// Words lent to the text reader, more than a damaged file has.
@@ -27,7 +27,8 @@ fn at_every_byte(run: &mut Run, pattern: &[u8], text: &[u8]) {
         for damaged in damages_at(pattern, at, BYTES) {
             run.input();
             read_pattern(run, &damaged);
-            count(run, &damaged, text);
+            lines(run, &damaged);
+            pair(run, &damaged, text);
             report(run, &input(&damaged, text));
         }
     }
@@ -35,7 +36,8 @@ fn at_every_byte(run: &mut Run, pattern: &[u8], text: &[u8]) {
         for damaged in damages_at(text, at, BYTES) {
             run.input();
             read_text(run, &damaged, ROOM);
-            count(run, pattern, &damaged);
+            lines(run, &damaged);
+            pair(run, pattern, &damaged);
             report(run, &input(pattern, &damaged));
         }
     }
@@ -56,7 +58,8 @@ fn at_random(run: &mut Run, pattern: &[u8], text: &[u8], seed: u64) {
         read_pattern(run, &pattern);
         read_text(run, &text, ROOM);
         read_text(run, &text, rng.within(0, 9));
-        count(run, &pattern, &text);
+        pair(run, &pattern, &text);
+        lines(run, &whole);
         report(run, &input(&pattern, &text));
         report(run, &whole);
     }

@@ -1,12 +1,14 @@
-//! All small texts and patterns, and all their largest nonoverlapping sets.
+//! All small texts and patterns, all their largest nonoverlapping sets, and the lines of all small files.
 
 use compare::brute::{largest_sets, largest_size, overlap, sorted_by_slot, Brute, Enumerated, Row};
+use compare::cases::lines::small_files;
 use compare::cases::small::{patterns, texts, tuples};
 use compare::cases::ANY_SPAN;
 use compare::layout::Pattern;
 use compare::rng::Rng;
 
-use crate::both::Both;
+use crate::both::{check_pattern, Both};
+use crate::files::lines;
 use crate::run::Run;
 
 /// Gaps of every small shape.
@@ -24,7 +26,7 @@ const MARKS: usize = 8;
 /// The most largest sets looked at for one pattern and text.
 const SETS: usize = 300;
 
-/// Compares all small texts and patterns.
+/// Compares all small texts, patterns and files.
 pub fn run(run: &mut Run) {
     let mut rng = Rng::new(11);
     let sets: [&[u16]; 3] = [&[1], &[2], &[1, 2]];
@@ -41,10 +43,16 @@ pub fn run(run: &mut Run) {
     ];
     for (patterns, texts) in families {
         for pattern in &patterns {
+            run.input();
+            check_pattern(run, pattern);
             for text in &texts {
                 compare(run, &mut rng, pattern, text);
             }
         }
+    }
+    for file in small_files() {
+        run.input();
+        lines(run, &file);
     }
 }
 

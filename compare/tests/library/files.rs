@@ -3,7 +3,7 @@
 use compare::brute;
 use compare::ffi;
 
-use crate::lent::Lent;
+use crate::lent::{Fenced, Lent};
 use crate::run::Run;
 
 /// Compares what a pattern file is read as.
@@ -11,7 +11,7 @@ pub fn read_pattern(run: &mut Run, file: &[u8]) {
     let library = ffi::read_pattern(file);
     let brute = brute::made_from_sheet(file);
     run.agree(&library, &brute, || format!("read_pattern {}", shown(file)));
-    run.call(library.number);
+    run.call("read_pattern", library.number);
 }
 
 /// Compares what a text file is read as, with so many words lent.
@@ -22,7 +22,48 @@ pub fn read_text(run: &mut Run, file: &[u8], room: usize) {
     let case = || format!("read_text {} with {room} words lent", shown(file));
     run.agree(&library, &brute, case);
     run.agree(&lent, &expected, case);
-    run.call(library.number);
+    run.call("read_text", library.number);
+}
+
+/// Compares what two files are read as in one call and the count for them, with lists of every interesting length lent.
+pub fn pair(run: &mut Run, pattern: &[u8], text: &[u8]) {
+    count(run, pattern, text);
+    let lines = text.iter().filter(|&&byte| byte == b'\n').count();
+    let words = lines.saturating_sub(1);
+    let mut rooms = vec![0, words.saturating_sub(1), words, words + 1, words + 37];
+    rooms.dedup();
+    for room in rooms {
+        read_input(run, pattern, text, room);
+    }
+}
+
+/// Compares what two files are read as in one call, with so many words lent.
+pub fn read_input(run: &mut Run, pattern: &[u8], text: &[u8], room: usize) {
+    let (mut lent, mut expected) = (Lent::places(room), Lent::places(room));
+    let library = ffi::read_input(Fenced::new(pattern).part(), Fenced::new(text).part(), lent.part());
+    let brute = brute::both_from_sheets(pattern, text, expected.part());
+    let case = || format!("read_input {} {} with {room} words lent", shown(pattern), shown(text));
+    run.agree(&library, &brute, case);
+    run.agree(&lent, &expected, case);
+    run.call("read_input", library.number);
+}
+
+/// Compares where the lines of a file end, from every byte of a short file, some of a long one, and from past its end.
+pub fn lines(run: &mut Run, file: &[u8]) {
+    let lent = Fenced::new(file);
+    for at in offsets(file.len()) {
+        let (library, brute) = (ffi::line(lent.part(), at), brute::line(file, at));
+        run.agree(&library, &brute, || format!("line {} from {at}", shown(file)));
+        run.call("line", 0);
+    }
+}
+
+/// Every offset in a file of fewer than 600 bytes, some 200 to 300 in a longer one, and offsets past its end.
+fn offsets(bytes: usize) -> Vec<usize> {
+    let within = (0..bytes).step_by((bytes / 300) | 1);
+    let past = [0, 1, 2, 24, 256, 65_536, 1 << 32, 1 << 63].map(|more| bytes + more);
+    let last = [usize::MAX - bytes, usize::MAX - 1, usize::MAX];
+    within.chain([bytes.saturating_sub(1)]).chain(past).chain(last).collect()
 }
 
 /// Compares the count for two files.
@@ -31,7 +72,7 @@ pub fn count(run: &mut Run, pattern: &[u8], text: &[u8]) {
     let brute = brute::count(pattern, text);
     let case = || format!("count {} {}", shown(pattern), shown(text));
     run.agree(&library, &brute, case);
-    run.call(library.saturating_sub(100_000));
+    run.call("count", library.saturating_sub(100_000));
 }
 
 /// Compares what the program prints, with room for all of it and some more.
@@ -58,7 +99,7 @@ fn report_in(run: &mut Run, input: &[u8], expected: &[u8], room: usize) {
     let case = || format!("report {} with {room} bytes lent", shown(input));
     run.agree(&written, &fitting, case);
     run.agree(&lent, &filled, case);
-    run.call(refused(expected));
+    run.call("report", refused(expected));
 }
 
 /// The number that an output says the input is refused with, 0 if it says no such thing.

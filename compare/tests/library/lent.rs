@@ -1,4 +1,4 @@
-//! Lists lent to calls, filled with entries that tell whether a call has touched them.
+//! Lists lent to calls, filled with entries that tell whether a call has touched them, and files between other bytes.
 
 use std::fmt::{Debug, Formatter, Result};
 
@@ -32,6 +32,23 @@ impl<T> Lent<T> {
     pub fn part(&mut self) -> &mut [T] {
         let end = self.entries.len() - GUARD;
         &mut self.entries[GUARD..end]
+    }
+}
+
+/// A file whose bytes are lent. Bytes 10 stand past them: to a call that reads on, a last line left open looks closed.
+pub struct Fenced {
+    bytes: Vec<u8>,
+}
+
+impl Fenced {
+    /// The file between bytes 10.
+    pub fn new(file: &[u8]) -> Fenced {
+        Fenced { bytes: [&[b'\n'; GUARD], file, &[b'\n'; GUARD]].concat() }
+    }
+
+    /// The file's bytes alone.
+    pub fn part(&self) -> &[u8] {
+        &self.bytes[GUARD..self.bytes.len() - GUARD]
     }
 }
 

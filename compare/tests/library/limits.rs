@@ -1,15 +1,16 @@
-//! Each limit of patterns, texts, rows, lists, tallies and clients, from both sides.
+//! Each limit of patterns, texts, rows, lists, tallies, clients and lines, from both sides.
 
 use compare::brute::{self, Brute};
 use compare::cases::inputs::sevens;
+use compare::cases::lines::one_long_line;
 use compare::cases::random::add_garbage;
 use compare::cases::tallies::{one_below_power, power, sixteen_words, thresholds};
 use compare::cases::{pattern, ANY_SPAN};
-use compare::ffi;
 use compare::layout::{Cursors, Pattern};
 use compare::rng::Rng;
 
-use crate::both::{check, rewind, with_slot, Both};
+use crate::both::{check, pattern_of, rewind, with_slot, Both};
+use crate::files::lines;
 use crate::run::Run;
 
 /// Numbers of slots or words on both sides of their limits, and some that look small when cut to fewer bits.
@@ -31,6 +32,7 @@ pub fn run(run: &mut Run) {
     row_lengths(run);
     tallies(run);
     clients(run);
+    long_lines(run);
 }
 
 /// Compares every call on a pattern and a text.
@@ -101,9 +103,7 @@ fn new_patterns(run: &mut Run) {
     for least in [0, 1, 5, 20_000, 20_001, 65_535] {
         for most in [0, 1, 20_000, 65_535] {
             run.input();
-            let (library, brute) = (ffi::pattern_of(least, most), brute::pattern_of(least, most));
-            run.agree(&library, &brute, || format!("pattern_of {least} {most}"));
-            run.call(0);
+            pattern_of(run, least, most);
         }
     }
     for count in [0, 1, 7, 15, 16, 17, 65_536, usize::MAX] {
@@ -186,6 +186,18 @@ fn clients(run: &mut Run) {
             }
             run.input();
             rewind(run, &cursors, client);
+        }
+    }
+}
+
+/// Compares lines of lengths at which a number of fewer bits would end.
+fn long_lines(run: &mut Run) {
+    for bytes in
+        [0, 1, 2, 62, 63, 64, 126, 127, 128, 254, 255, 256, 257, 32_767, 32_768, 65_534, 65_535, 65_536, 70_000]
+    {
+        for file in one_long_line(bytes) {
+            run.input();
+            lines(run, &file);
         }
     }
 }

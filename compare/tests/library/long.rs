@@ -87,6 +87,6 @@ fn same_words(run: &mut Run, slots: usize, low: u16, high: u16) {
         let case = || format!("{name} of 20,000 sevens: {slots} sevens, gaps {low} to {high}");
         run.agree(&library, &answer, case);
         run.agree(&lent, &expected, case);
-        run.call(library.number);
+        run.call(name, library.number);
     }
 }

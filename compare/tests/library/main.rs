@@ -41,7 +41,10 @@ const GROUPS: [Group; 10] = [
 /// The fewest inputs that a whole run compares.
 const FEWEST_INPUTS: u64 = 100_000;
 
-/// Runs all groups, prints the counts, and fails if a group differed or a refusal never came up.
+/// The fewest inputs that each call is compared on.
+const FEWEST_OF_EACH: u64 = 2_000;
+
+/// Runs all groups, prints the counts, and fails if a group differed, a refusal never came up or a call came up rarely.
 fn main() -> ExitCode {
     let mut run = Run::new();
     let mut failed = Vec::new();
@@ -59,12 +62,13 @@ fn main() -> ExitCode {
 
 /// Whether the run has compared what it must, without a difference.
 fn judge(run: &Run, failed: &[&str]) -> ExitCode {
-    let missing = run.missing();
-    let too_few = run.totals().0 < FEWEST_INPUTS;
-    if failed.is_empty() && missing.is_empty() && !too_few {
+    let (missing, rare) = (run.missing(), run.rare(FEWEST_OF_EACH));
+    let too_few = run.inputs() < FEWEST_INPUTS;
+    if failed.is_empty() && missing.is_empty() && rare.is_empty() && !too_few {
         println!("library and brute force agree");
         return ExitCode::SUCCESS;
     }
-    println!("FAILED: groups {failed:?}, refusals never seen {missing:?}, too few inputs: {too_few}");
+    println!("FAILED: groups {failed:?}, refusals never seen {missing:?}, calls rarely seen {rare:?}");
+    println!("too few inputs: {too_few}");
     ExitCode::FAILURE
 }

@@ -2,10 +2,11 @@
 
 use compare::brute::Brute;
 use compare::cases::inputs::sevens;
+use compare::cases::small::tuples;
 use compare::cases::{pattern, ANY_SPAN};
 use compare::layout::{Cursors, Pattern};
 
-use crate::both::Both;
+use crate::both::{check, check_pattern, Both};
 use crate::run::Run;
 
 /// The failures that can be put together, each by its bit.
@@ -34,20 +35,56 @@ pub fn run(run: &mut Run) {
             both.every_call(marks, &cursors, client);
         }
     }
+    sets_of_three(run);
+    two_of_sixteen(run);
+}
+
+/// Compares the tests of patterns of three slots, each slot with every set of failures.
+fn sets_of_three(run: &mut Run) {
+    let sets: Vec<u16> = (0..8).collect();
+    for sets in tuples(&sets, 3) {
+        for others in [0, SLOTS, SPAN, SLOTS | SPAN] {
+            for zeroth in [0, 1] {
+                let mut pattern = broken(others, [0, 0, zeroth]);
+                for (at, set) in sets.iter().enumerate() {
+                    break_slot(&mut pattern, at, u32::from(*set) * WORDS);
+                }
+                compare(run, &pattern);
+            }
+        }
+    }
+}
+
+/// Compares the tests of patterns of sixteen slots, all or half of them stated, and one or two failing in each way.
+fn two_of_sixteen(run: &mut Run) {
+    let failures = [WORDS, ZERO, GAP];
+    for at in 0..16 * 16 {
+        for both in 0..9 {
+            for stated in [16, 8] {
+                let mut pattern = pattern(ANY_SPAN, &sevens(16, 0, 1));
+                break_slot(&mut pattern, at / 16, failures[both / 3]);
+                break_slot(&mut pattern, at % 16, failures[both % 3]);
+                pattern.count = stated;
+                compare(run, &pattern);
+            }
+        }
+    }
+}
+
+/// Compares the tests of a pattern, alone, and with a text within the limit and one past it.
+fn compare(run: &mut Run, pattern: &Pattern) {
+    run.input();
+    check_pattern(run, pattern);
+    check(run, pattern, 0);
+    check(run, pattern, 20_001);
 }
 
 /// A pattern of three slots with these failures: too few or many words, the word 0, and a wrong gap at these slots.
 fn broken(failures: u32, [words, zero, gap]: [usize; 3]) -> Pattern {
     let mut broken = pattern(ANY_SPAN, &sevens(3, 0, 1));
-    if failures & WORDS != 0 {
-        broken.slots[words].count = if words == 1 { 0 } else { 9 };
-    }
-    if failures & ZERO != 0 {
-        broken.slots[zero].words[0] = 0;
-    }
-    if failures & GAP != 0 {
-        (broken.slots[gap].low, broken.slots[gap].high) = (2, 1);
-    }
+    break_slot(&mut broken, words, failures & WORDS);
+    break_slot(&mut broken, zero, failures & ZERO);
+    break_slot(&mut broken, gap, failures & GAP);
     if failures & SPAN != 0 {
         (broken.least, broken.most) = (0, 5);
     }
@@ -55,4 +92,18 @@ fn broken(failures: u32, [words, zero, gap]: [usize; 3]) -> Pattern {
         broken.count = if gap == 1 { 0 } else { 17 };
     }
     broken
+}
+
+/// Gives a slot these failures: too few or many words, the word 0, and a wrong gap.
+fn break_slot(pattern: &mut Pattern, at: usize, failures: u32) {
+    let slot = &mut pattern.slots[at];
+    if failures & WORDS != 0 {
+        slot.count = if at == 1 { 0 } else { 9 };
+    }
+    if failures & ZERO != 0 {
+        slot.words[0] = 0;
+    }
+    if failures & GAP != 0 {
+        (slot.low, slot.high) = (2, 1);
+    }
 }

@@ -1,11 +1,13 @@
-//! Patterns and texts at random, within the limits and past them.
+//! Patterns and texts at random, within the limits and past them, and lines at random.
 
 use compare::brute::{Brute, Searcher};
+use compare::cases::lines::any_lines;
 use compare::cases::random::{add_garbage, any_cursors, any_marks, any_pattern, any_text, break_pattern, Kind};
 use compare::layout::Pattern;
 use compare::rng::Rng;
 
-use crate::both::{with_slot, Both};
+use crate::both::{pattern_of, with_slot, Both};
+use crate::files::lines;
 use crate::run::Run;
 
 /// The most occurrences that are written out one by one; beyond, they are sieved.
@@ -25,7 +27,7 @@ const KINDS: [Kind; 4] = [
 /// What the patterns for longer texts are like.
 const WIDE: Kind = Kind { slots: (2, 16), highest_word: 4, most_words: 2, widest_gap: 63 };
 
-/// Compares random patterns and texts.
+/// Compares random patterns, texts and files.
 pub fn run(run: &mut Run) {
     let mut rng = Rng::new(22);
     for round in 0..6_000 {
@@ -50,6 +52,10 @@ pub fn run(run: &mut Run) {
     }
     for _ in 0..20_000 {
         added_slot(run, &mut rng);
+    }
+    for bytes in 0..3_000 {
+        run.input();
+        lines(run, &any_lines(&mut rng, bytes % 700));
     }
 }
 
@@ -84,7 +90,7 @@ fn compare_by(mut both: Both<impl Searcher>, rng: &mut Rng) {
     both.every_call(&marks, &cursors, client);
 }
 
-/// Compares adding a slot to a pattern of any state.
+/// Compares adding a slot to a pattern of any state, and a new pattern with any span limits.
 fn added_slot(run: &mut Run, rng: &mut Rng) {
     let mut pattern = any_pattern(rng, &KINDS[3]);
     pattern.count = rng.pick(&[0, 1, 2, 14, 15, 16, 17, 65_535, 1 << 32, usize::MAX]);
@@ -93,4 +99,5 @@ fn added_slot(run: &mut Run, rng: &mut Rng) {
     let (low, high) = rng.pick(&[(0, 0), (0, 63), (63, 63), (0, 64), (64, 64), (2, 1), (0, 1), (65_535, 0)]);
     run.input();
     with_slot(run, &pattern, low, high, &words);
+    pattern_of(run, rng.word(0, 65_535), rng.word(0, 65_535));
 }

@@ -1,17 +1,20 @@
 //! Files on both sides of each limit, in every order of names, one by one and two in one call.
 
 use compare::brute::pattern_of;
-use compare::cases::files::{input, pattern_file, plain_pattern_file, text_file, SLOT_ORDERS, SPAN_ORDERS};
+use compare::cases::files::{damage, input, pattern_file, plain_pattern_file, text_file, SLOT_ORDERS, SPAN_ORDERS};
 use compare::cases::inputs::inputs;
-use compare::cases::random::{any_pattern, any_text, Kind};
+use compare::cases::random::{any_pattern, any_text, break_pattern, Kind};
 use compare::cases::worked::EXAMPLE_INPUT;
 use compare::rng::Rng;
 
-use crate::files::{count, read_pattern, read_text, report, report_cut};
+use crate::files::{lines, pair, read_input, read_pattern, read_text, report, report_cut};
 use crate::run::Run;
 
 /// The lines before the slots' lines.
 const HEAD: &str = "least most\n1 20000\nlow high words\n";
+
+/// What the patterns in files are like.
+const KIND: Kind = Kind { slots: (1, 16), highest_word: 9, most_words: 8, widest_gap: 5 };
 
 /// Compares files.
 pub fn run(run: &mut Run) {
@@ -20,9 +23,11 @@ pub fn run(run: &mut Run) {
     slots_at_limit(run);
     words_at_limit(run);
     failures_of_both(run);
+    pairs_at_random(run);
     for input in inputs() {
         run.input();
         report(run, &input);
+        lines(run, &input);
     }
     run.input();
     report_cut(run, EXAMPLE_INPUT);
@@ -32,9 +37,8 @@ pub fn run(run: &mut Run) {
 /// Compares good files with their names in every order, and with lists of too few words.
 fn good(run: &mut Run) {
     let mut rng = Rng::new(44);
-    let kind = Kind { slots: (1, 16), highest_word: 9, most_words: 8, widest_gap: 5 };
     for _ in 0..40 {
-        let pattern = any_pattern(&mut rng, &kind);
+        let pattern = any_pattern(&mut rng, &KIND);
         let words = rng.within(0, 30);
         let text = text_file(&any_text(&mut rng, words, 9));
         for span in SPAN_ORDERS {
@@ -42,7 +46,7 @@ fn good(run: &mut Run) {
                 let file = pattern_file(&pattern, span, slot);
                 run.input();
                 read_pattern(run, &file);
-                count(run, &file, &text);
+                pair(run, &file, &text);
                 report(run, &input(&file, &text));
             }
         }
@@ -75,14 +79,16 @@ fn bytes_at_limit(run: &mut Run) {
         for text in [&text, &single] {
             run.input();
             read_text(run, text, 20_000);
-            count(run, &short_pattern, text);
+            lines(run, text);
+            pair(run, &short_pattern, text);
             report(run, &input(&short_pattern, text));
         }
         for pattern in [&pattern, &listed, &text] {
             run.input();
             read_pattern(run, pattern);
-            count(run, pattern, b"word\n7\n");
-            count(run, pattern, &single);
+            lines(run, pattern);
+            pair(run, pattern, b"word\n7\n");
+            pair(run, pattern, &single);
             report(run, pattern);
         }
     }
@@ -100,7 +106,7 @@ fn slots_at_limit(run: &mut Run) {
             let file = format!("{HEAD}{}{last}", line.repeat(slots)).into_bytes();
             run.input();
             read_pattern(run, &file);
-            count(run, &file, b"word\n7\n7\n");
+            pair(run, &file, b"word\n7\n7\n");
             report(run, &input(&file, b"word\n7\n7\n"));
         }
     }
@@ -111,7 +117,7 @@ fn slots_at_limit(run: &mut Run) {
                 let file = format!("{HEAD}0 0 7\n{low} {high} {field}\n").into_bytes();
                 run.input();
                 read_pattern(run, &file);
-                count(run, &file, b"word\n7\n7\n");
+                pair(run, &file, b"word\n7\n7\n");
             }
         }
     }
@@ -127,7 +133,9 @@ fn words_at_limit(run: &mut Run) {
                 run.input();
                 read_text(run, &file, room);
             }
-            count(run, &pattern, &file);
+            read_input(run, &pattern, &file, 1);
+            read_input(run, &pattern, &file, 20_000);
+            pair(run, &pattern, &file);
             report(run, &input(&pattern, &file));
         }
     }
@@ -155,8 +163,34 @@ fn failures_of_both(run: &mut Run) {
     for pattern in &patterns {
         for text in &texts {
             run.input();
-            count(run, pattern, text);
+            pair(run, pattern, text);
             report(run, &input(pattern, text));
         }
+    }
+}
+
+/// Compares two random files in one call, now and then with values past the limits, damaged bytes, or both.
+fn pairs_at_random(run: &mut Run) {
+    let mut rng = Rng::new(45);
+    for _ in 0..4_000 {
+        let mut stated = any_pattern(&mut rng, &KIND);
+        for _ in 0..rng.pick(&[0, 0, 1, 2]) {
+            break_pattern(&mut rng, &mut stated);
+        }
+        stated.count = stated.count.min(16);
+        stated.slots.iter_mut().for_each(|slot| slot.count = slot.count.min(8));
+        let mut file = pattern_file(&stated, rng.pick(&SPAN_ORDERS), rng.pick(&SLOT_ORDERS));
+        let words = rng.within(0, 30);
+        let mut text = text_file(&any_text(&mut rng, words, 29_999));
+        if rng.once_in(6) {
+            file = damage(&mut rng, &file);
+        }
+        if rng.once_in(3) {
+            text = damage(&mut rng, &text);
+        }
+        run.input();
+        pair(run, &file, &text);
+        lines(run, &file);
+        lines(run, &text);
     }
 }

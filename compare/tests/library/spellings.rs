@@ -1,8 +1,9 @@
-//! Names and numbers spelled rightly and wrongly, in every field of the files.
+//! Names and numbers spelled rightly and wrongly, in every field of the files, and every byte in a line.
 
 use compare::cases::files::input;
+use compare::cases::lines::every_byte;
 
-use crate::files::{count, read_pattern, read_text, report};
+use crate::files::{lines, pair, read_pattern, read_text, report};
 use crate::run::Run;
 
 /// Numbers as they may and may not be spelled, some that look right when cut to fewer bits.
@@ -91,7 +92,7 @@ const NAMES: [&str; 34] = [
     "wor",
 ];
 
-/// Compares every spelling in every field.
+/// Compares every spelling in every field, and every byte in a line.
 pub fn run(run: &mut Run) {
     for number in NUMBERS {
         pattern(run, &format!("least most\n{number} 20000\nlow high words\n0 0 7\n"));
@@ -114,6 +115,10 @@ pub fn run(run: &mut Run) {
         text(run, &format!("{names}\n7\n"));
         text(run, names);
     }
+    for file in every_byte() {
+        run.input();
+        lines(run, &file);
+    }
 }
 
 /// Compares pattern files with this field of words, in every place of its line.
@@ -129,7 +134,8 @@ fn pattern(run: &mut Run, file: &str) {
     let text = b"word\n7\n1\n7\n";
     run.input();
     read_pattern(run, file.as_bytes());
-    count(run, file.as_bytes(), text);
+    pair(run, file.as_bytes(), text);
+    lines(run, file.as_bytes());
     report(run, &input(file.as_bytes(), text));
 }
 
@@ -140,6 +146,7 @@ fn text(run: &mut Run, file: &str) {
     for room in 0..=4 {
         read_text(run, file.as_bytes(), room);
     }
-    count(run, pattern, file.as_bytes());
+    pair(run, pattern, file.as_bytes());
+    lines(run, file.as_bytes());
     report(run, &input(pattern, file.as_bytes()));
 }
