@@ -40,6 +40,20 @@ typedef struct {
     bedbloomer_pattern pattern;
 } bedbloomer_made;
 
+/* How many words were read and the pattern, or a refusal with its place, 0 words and a new pattern. */
+typedef struct {
+    uint32_t number;
+    size_t place;
+    uint64_t words;
+    bedbloomer_pattern pattern;
+} bedbloomer_read_both;
+
+/* Where a line's bytes end and where the next line begins; the same place where the line is not closed. */
+typedef struct {
+    size_t end;
+    size_t next;
+} bedbloomer_line_ends;
+
 /* What a search found: 1 and its places, those past the slots 0; where there is none or it is refused, 0 and all places 0. */
 typedef struct {
     uint32_t number;
@@ -80,14 +94,20 @@ uint32_t bedbloomer_count(const uint8_t *pattern, size_t pattern_bytes, const ui
 /* The bytes that the program prints for this input, as many as `out` holds: how many were written. */
 size_t bedbloomer_report(const uint8_t *input, size_t input_bytes, uint8_t *out, size_t out_bytes);
 
-/* The files one by one; a text's words go to the start of `words`, and the answer is how many. */
+/* The files one by one, and both in one call; a text's words go to the start of `words`, and the answer is how many. */
 bedbloomer_made bedbloomer_read_pattern(const uint8_t *bytes, size_t byte_count);
 bedbloomer_answer bedbloomer_read_text(const uint8_t *bytes, size_t byte_count, uint16_t *words, size_t word_count);
+bedbloomer_read_both bedbloomer_read_input(const uint8_t *pattern, size_t pattern_bytes, const uint8_t *text,
+                                           size_t text_bytes, uint16_t *words, size_t word_count);
 
-/* A pattern without slots, with these span limits; the pattern with one slot more; its tests 1 to 5, and 6 for a text of `words`. */
+/* The line that begins at a place of the bytes. */
+bedbloomer_line_ends bedbloomer_line(const uint8_t *bytes, size_t byte_count, size_t at);
+
+/* A pattern without slots, with these span limits; the pattern with one slot more; its tests 1 to 5, alone and with 6 for a text of `words`. */
 bedbloomer_pattern bedbloomer_pattern_of(uint16_t least, uint16_t most);
 bedbloomer_made bedbloomer_with_slot(bedbloomer_pattern pattern, uint16_t low, uint16_t high, const uint16_t *words,
                                      size_t word_count);
+bedbloomer_answer bedbloomer_check_pattern(bedbloomer_pattern pattern);
 bedbloomer_answer bedbloomer_check(bedbloomer_pattern pattern, size_t words);
 
 /* Whether a row is an occurrence (1 or 0); the word at an index from 0 of its excerpt. */

@@ -2,6 +2,7 @@
 use Prim.Native.Nat.{ℕ}
 use mathlib.Core.List.{List}
 use lib.ListN.{length, getD, replicate}
+use Rattle.pattern.specs.declared.Pattern.{Pattern}
 use Rattle.pattern.specs.declared.Extended.{Extended}
 use Rattle.pattern.specs.declared.refusal.Refusal.{Refusal}
 use Rattle.pattern.specs.declared.refusal.Verdict.{Verdict}
@@ -16,13 +17,18 @@ use Rattle.matching.specs.declared.searches.Outcome.the-variants.{Found as Hit,
 use Rattle.matching.specs.declared.searches.Search.{Search}
 use Rattle.counting.specs.declared.total.Tallied.{Tallied}
 use Rattle.counting.specs.declared.total.Tallied.the-variants.{Total, Refused as NotTallied}
+use Rattle.format.specs.declared.input.InputRead.{InputRead}
 use Rattle.format.specs.declared.patterns.PatternRead.{PatternRead}
+use Rattle.format.specs.declared.reader.Line.{Line}
 use Rattle.format.specs.declared.texts.TextRead.{TextRead}
 use Rattle.format.specs.declared.texts.TextRead.the-variants.{Words, Refused as NoText}
+use Rattle.cursors.specs.declared.Cursors.{Cursors}
 use Rattle.cursors.specs.declared.Served.{Served}
 use Rattle.cursors.specs.declared.Rewound.{Rewound}
 use Rattle.bindings.specs.declared.answers.Answer.{Answer}
 use Rattle.bindings.specs.declared.answers.Made.{Made}
+use Rattle.bindings.specs.declared.answers.ReadBoth.{ReadBoth}
+use Rattle.bindings.specs.declared.answers.LineEnds.{LineEnds}
 use Rattle.bindings.specs.declared.answers.Found.{Found}
 use Rattle.bindings.specs.declared.answers.Excerpted.{Excerpted}
 use Rattle.bindings.specs.declared.answers.ServedTo.{ServedTo}
@@ -65,11 +71,26 @@ ofOutcome (NotSearched why) = refused why
 
 -- ---- with what else a call gives
 
+abbrev pub withPattern : Verdict → Pattern → Made
+withPattern v p = record { number = ofVerdict v .number; place = ofVerdict v .place; pattern = p }
+
 abbrev pub ofExtended : Extended → Made
-ofExtended r = record { number = ofVerdict (r .verdict) .number; place = ofVerdict (r .verdict) .place; pattern = r .pattern }
+ofExtended r = withPattern (r .verdict) (r .pattern)
 
 abbrev pub ofPatternRead : PatternRead → Made
-ofPatternRead r = record { number = ofVerdict (r .verdict) .number; place = ofVerdict (r .verdict) .place; pattern = r .pattern }
+ofPatternRead r = withPattern (r .verdict) (r .pattern)
+
+abbrev pub ofInputRead : InputRead → ReadBoth
+ofInputRead r =
+    record {
+      number = ofTextRead (r .text) .number;
+      place = ofTextRead (r .text) .place;
+      words = ofTextRead (r .text) .value;
+      pattern = r .pattern;
+    }
+
+abbrev pub ofLine : Line → LineEnds
+ofLine l = record { end = l .end; next = l .next }
 
 abbrev pub ofSearch : Search → Found
 ofSearch r =
@@ -84,23 +105,12 @@ ofSearch r =
 abbrev pub ofExcerpt : List ℕ → ℕ → Excerpted
 ofExcerpt ws i = record { length = length ws; word = getD ws i 0 }
 
-abbrev pub ofServed : Served → ServedTo
-ofServed r =
-    record {
-      cursors = r .cursors;
-      number = ofOutcome (r .outcome) .number;
-      place = ofOutcome (r .outcome) .place;
-      found = ofOutcome (r .outcome) .value;
-      places = r .places;
-    }
+abbrev pub withCursors : Cursors → Answer → List ℕ → ServedTo
+withCursors after told row = record { cursors = after; number = told .number; place = told .place; found = told .value; places = row }
 
--- rewinding finds nothing
+abbrev pub ofServed : Served → ServedTo
+ofServed r = withCursors (r .cursors) (ofOutcome (r .outcome)) (r .places)
+
+-- rewinding finds nothing: a verdict's value is 0
 abbrev pub ofRewound : Rewound → ServedTo
-ofRewound r =
-    record {
-      cursors = r .cursors;
-      number = ofVerdict (r .verdict) .number;
-      place = ofVerdict (r .verdict) .place;
-      found = 0;
-      places = replicate 16 0;
-    }
+ofRewound r = withCursors (r .cursors) (ofVerdict (r .verdict)) (replicate 16 0)

@@ -1,4 +1,5 @@
 use cursors::Cursors;
+use format::TextRead;
 use hits::Tested;
 use matching::Listed;
 use matching::Outcome;
@@ -6,7 +7,7 @@ use pattern::Pattern;
 use pattern::Refusal;
 use pattern::Verdict;
 ghost use mathlib.Core.Path.{_≡_};
-ghost use Rattle.bindings.specs.Answers.{refused, value, ofVerdict, ofListed, ofTested, ofOutcome};
+ghost use Rattle.bindings.specs.Answers.{refused, value, ofVerdict, ofListed, ofTextRead, ofTested, ofOutcome, withPattern};
 
 // An answer, or a refusal's number with its place; then the value is 0.
 #[repr(C)]
@@ -22,6 +23,22 @@ pub struct Made {
     pub number: u32,
     pub place: usize,
     pub pattern: Pattern,
+}
+
+// How many words were read and the pattern, or a refusal's number with its place, 0 words and a new pattern.
+#[repr(C)]
+pub struct ReadBoth {
+    pub number: u32,
+    pub place: usize,
+    pub words: u64,
+    pub pattern: Pattern,
+}
+
+// Where a line's bytes end and where the next line begins; the same place where the line is not closed.
+#[repr(C)]
+pub struct LineEnds {
+    pub end: usize,
+    pub next: usize,
 }
 
 // What a search found: 1 and its places, or 0 and places of 0.
@@ -92,6 +109,16 @@ pub(crate) fn of_listed(listed: Listed) -> Answer
     }
 }
 
+// What reading a text answered, as numbers.
+pub(crate) fn of_text_read(read: TextRead) -> Answer
+    ensures { λ r. ⌜ r ≡ ofTextRead read ⌝ }
+{
+    match read {
+        TextRead::Words(n) => value(n as u64),
+        TextRead::Refused(why) => refused(why),
+    }
+}
+
 // What the test of a row answered, as numbers.
 pub(crate) fn of_tested(tested: Tested) -> Answer
     ensures { λ r. ⌜ r ≡ ofTested tested ⌝ }
@@ -111,5 +138,17 @@ pub(crate) fn of_outcome(outcome: Outcome) -> Answer
         Outcome::Found => value(1),
         Outcome::Absent => value(0),
         Outcome::Refused(why) => refused(why),
+    }
+}
+
+// A verdict as numbers, with the pattern beside it.
+pub(crate) fn with_pattern(verdict: Verdict, pattern: Pattern) -> Made
+    ensures { λ r. ⌜ r ≡ withPattern verdict pattern ⌝ }
+{
+    let told = of_verdict(verdict);
+    Made {
+        number: told.number,
+        place: told.place,
+        pattern,
     }
 }

@@ -1,17 +1,20 @@
 use crate::answers::Answer;
+use crate::answers::LineEnds;
 use crate::answers::Made;
-use crate::answers::of_verdict;
-use crate::answers::refused;
-use crate::answers::value;
+use crate::answers::ReadBoth;
+use crate::answers::of_text_read;
+use crate::answers::with_pattern;
 use format::TextRead;
 use matching::Listed;
 ghost use mathlib.Core.Path.{_≡_};
 ghost use Prim.Native.Nat.{min};
 ghost use lib.ListN.{length};
+ghost use Rattle.format.specs.Input.{inputRead, inputWritten};
+ghost use Rattle.format.specs.Lines.{lineAt};
 ghost use Rattle.format.specs.Patterns.{patternRead};
 ghost use Rattle.format.specs.Texts.{textRead, textWritten};
 ghost use Rattle.report.specs.Report.{reported, overlaid};
-ghost use Rattle.bindings.specs.Answers.{ofPatternRead, ofTextRead};
+ghost use Rattle.bindings.specs.Answers.{ofPatternRead, ofTextRead, ofInputRead, ofLine};
 ghost use Rattle.bindings.specs.Counts.{countOf};
 
 // The count for two files, with room for every text within the limit.
@@ -58,13 +61,8 @@ pub extern "C" fn bedbloomer_read_pattern(bytes: &[u8]) -> Made
 {
     let read = format::read_pattern(bytes);
     let verdict = read.verdict;
-    let told = of_verdict(verdict);
     let shown = read.pattern;
-    Made {
-        number: told.number,
-        place: told.place,
-        pattern: shown,
-    }
+    with_pattern(verdict, shown)
 }
 
 // Reads a text file into the start of `words`: how many there are.
@@ -74,8 +72,35 @@ pub extern "C" fn bedbloomer_read_text(bytes: &[u8], words: &mut [u16]) -> Answe
     ensures { λ _. ⌜ now (words .exit) ≡ textWritten (now (bytes .entry)) (now (words .entry)) ⌝ }
 {
     let read = format::read_text(bytes, words);
-    match read {
-        TextRead::Words(n) => value(n as u64),
-        TextRead::Refused(why) => refused(why),
+    of_text_read(read)
+}
+
+// Reads both files in one call; the text's words go to the start of `words`.
+#[no_mangle]
+pub extern "C" fn bedbloomer_read_input(pattern: &[u8], text: &[u8], words: &mut [u16]) -> ReadBoth
+    ensures { λ r. ⌜ r ≡ ofInputRead (inputRead (now (pattern .entry)) (now (text .entry)) (length (now (words .entry)))) ⌝ }
+    ensures { λ _. ⌜ now (words .exit) ≡ inputWritten (now (pattern .entry)) (now (text .entry)) (now (words .entry)) ⌝ }
+{
+    let both = format::read_input(pattern, text, words);
+    let answer = both.text;
+    let told = of_text_read(answer);
+    let shown = both.pattern;
+    ReadBoth {
+        number: told.number,
+        place: told.place,
+        words: told.value,
+        pattern: shown,
+    }
+}
+
+// The line that begins at a place of the bytes.
+#[no_mangle]
+pub extern "C" fn bedbloomer_line(bytes: &[u8], at: usize) -> LineEnds
+    ensures { λ r. ⌜ r ≡ ofLine (lineAt (now (bytes .entry)) at) ⌝ }
+{
+    let line = format::line_at(bytes, at);
+    LineEnds {
+        end: line.end,
+        next: line.next,
     }
 }

@@ -1,11 +1,12 @@
 use crate::answers::Answer;
 use crate::answers::Made;
 use crate::answers::of_verdict;
+use crate::answers::with_pattern;
 use pattern::Pattern;
 ghost use mathlib.Core.Path.{_≡_};
 ghost use Rattle.pattern.specs.Patterns.{emptyPattern, withSpan};
 ghost use Rattle.pattern.specs.Adding.{extended};
-ghost use Rattle.pattern.specs.Tests.{inputVerdict};
+ghost use Rattle.pattern.specs.Tests.{patternVerdict, inputVerdict};
 ghost use Rattle.bindings.specs.Answers.{ofVerdict, ofExtended};
 
 // The pattern without slots that has these span limits.
@@ -24,13 +25,16 @@ pub extern "C" fn bedbloomer_with_slot(pattern: Pattern, low: u16, high: u16, wo
 {
     let added = pattern.with_slot(low, high, words);
     let verdict = added.verdict;
-    let told = of_verdict(verdict);
     let longer = added.pattern;
-    Made {
-        number: told.number,
-        place: told.place,
-        pattern: longer,
-    }
+    with_pattern(verdict, longer)
+}
+
+// The first of the tests 1 to 5 that the pattern fails.
+#[no_mangle]
+pub extern "C" fn bedbloomer_check_pattern(pattern: Pattern) -> Answer
+    ensures { λ r. ⌜ r ≡ ofVerdict (patternVerdict pattern) ⌝ }
+{
+    of_verdict(pattern.check())
 }
 
 // The first of the tests 1 to 6 that the pattern and a text of so many words fail.

@@ -1,3 +1,4 @@
+use crate::answers::Answer;
 use crate::answers::ServedTo;
 use crate::answers::of_outcome;
 use crate::answers::of_verdict;
@@ -5,7 +6,20 @@ use cursors::Cursors;
 use pattern::Pattern;
 ghost use mathlib.Core.Path.{_≡_};
 ghost use Rattle.cursors.specs.Machine.{nextServed, rewound};
-ghost use Rattle.bindings.specs.Answers.{ofServed, ofRewound};
+ghost use Rattle.bindings.specs.Answers.{withCursors, ofServed, ofRewound};
+
+// An answer beside the state that the call leaves.
+fn with_cursors(cursors: Cursors, told: Answer, places: [u16; 16]) -> ServedTo
+    ensures { λ r. ⌜ r ≡ withCursors cursors told places ⌝ }
+{
+    ServedTo {
+        cursors,
+        number: told.number,
+        place: told.place,
+        found: told.value,
+        places,
+    }
+}
 
 // The next occurrence for the client.
 #[no_mangle]
@@ -22,13 +36,7 @@ pub extern "C" fn bedbloomer_next(
     let told = of_outcome(outcome);
     let after = served.cursors;
     let places = served.places;
-    ServedTo {
-        cursors: after,
-        number: told.number,
-        place: told.place,
-        found: told.value,
-        places,
-    }
+    with_cursors(after, told, places)
 }
 
 // The client's marks set to 0.
@@ -40,11 +48,5 @@ pub extern "C" fn bedbloomer_rewind(cursors: Cursors, client: usize) -> ServedTo
     let verdict = rewound.verdict;
     let said = of_verdict(verdict);
     let left = rewound.cursors;
-    ServedTo {
-        cursors: left,
-        number: said.number,
-        place: said.place,
-        found: 0,
-        places: [0u16; 16],
-    }
+    with_cursors(left, said, [0u16; 16])
 }

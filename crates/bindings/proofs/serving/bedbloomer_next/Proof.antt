@@ -9,8 +9,12 @@ next-requires c κs = search needs
 of-outcome-requires : tie.Need-of-outcome-requires
 of-outcome-requires c κs = search needs
 
+with-cursors-requires : tie.Need-with-cursors-requires
+with-cursors-requires c κs = search needs
+
 returns : tie.Need-returns
-returns c = simp (← c .before .before .before .next .ensures, c .before .before .of-outcome .ensures)
+returns c = simp (← c .before .before .before .before .next .ensures, c .with-cursors .ensures, c .before .before .before .of-outcome .ensures)
 
 pub bedbloomer-next-spec : {M : Type 1} → statement M
-bedbloomer-next-spec = tie.close (tie.spec next-requires of-outcome-requires returns)
+bedbloomer-next-spec =
+    tie.close (tie.spec next-requires of-outcome-requires with-cursors-requires returns)
