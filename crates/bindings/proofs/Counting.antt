@@ -1,74 +1,82 @@
 -- The count for two files: where they are read, pattern and text are accepted, so the support answers with rows. Assumes nothing.
-use Prim.Native.Nat.{ℕ, _+_, _-_, _≤_}
+use Prim.Native.Nat.{ℕ, _+_, _-_, _≤_, _<_}
 use native.Mathlib.Omega.{arith}
 use mathlib.Core.List.{List}
-use mathlib.Core.Path.{_≡_, sym, _∙_, ap}
+use mathlib.Core.Path.{_≡_, refl, sym, _∙_, ap}
 use lib.ListN.{length, take, drop, length-take}
-use Rattle.pattern.specs.declared.refusal.Refusal.{Refusal}
+use Rattle.pattern.specs.declared.Pattern.{Pattern}
 use Rattle.pattern.specs.declared.refusal.Verdict.{Verdict}
 use Rattle.pattern.specs.declared.refusal.Verdict.the-variants.{Accepted}
 use Rattle.pattern.specs.Laws.Accepting.{input-accepted}
-use Rattle.pattern.specs.Refusals.{numberOf}
 use Rattle.pattern.specs.Tests.{inputVerdict}
 use Rattle.matching.specs.Answers.{counted}
 use Rattle.matching.specs.Lists.{leftmost}
 use Rattle.matching.specs.Laws.Lengths.{leftmost-length}
-use Rattle.matching.specs.declared.rows.Listed.{Listed}
-use Rattle.matching.specs.declared.rows.Listed.the-variants.{Rows, Refused as NotListed}
 use Rattle.format.specs.Input.{inputRead, inputWritten}
-use Rattle.format.specs.Laws.Input.{ReadBoth, input-read}
-use Rattle.format.specs.declared.input.InputRead.{InputRead}
-use Rattle.format.specs.declared.texts.TextRead.the-variants.{Words, Refused as NoText}
-use Rattle.bindings.specs.Counts.{countOf}
+use Rattle.format.specs.Laws.Input.{ReadBoth as BothRead, input-read}
+use Rattle.format.specs.declared.texts.TextRead.{TextRead}
+use Rattle.format.specs.declared.texts.TextRead.the-variants.{Words, Refused}
+use Rattle.bindings.specs.declared.answers.Answer.{Answer}
+use Rattle.bindings.specs.declared.answers.ReadBoth.{ReadBoth}
+use Rattle.bindings.specs.Answers.{ofListed, ofTextRead, ofInputRead}
+use Rattle.bindings.specs.Counts.{countOr, countOf}
+use Rattle.bindings.proofs.Numbers.{number-range}
 
-same-rows : {k m : ℕ} → Rows k ≡ Rows m → k ≡ m
-same-rows e = cc
+-- ---- the number that a read text shows
 
-not-rows : {why : Refusal} {m : ℕ} → NotListed why ≡ Rows m → ⊥
-not-rows e = let z : _≡_ {A = ℕ} 0 1 = cc in omega arith
+number-small : (x : TextRead) → ofTextRead x .number ≤ 15
+number-small (Words n) = omega arith
+number-small (Refused why) = number-range why .1
 
--- what the support answers where both files are read: a number of rows, which is the count, and no refusal
-pub record Told (p t : List ℕ) (s : Listed) : Type 0 where
-  pub few : {k : ℕ} → s ≡ Rows k → k ≤ 20000
-  pub rows : {k : ℕ} → s ≡ Rows k → k ≡ countOf p t
-  pub fine : {why : Refusal} → s ≡ NotListed why → ⊥
+number-none : (x : TextRead) → ofTextRead x .number ≤ 0 → x ≡ Words (ofTextRead x .value)
+number-none (Words n) z = refl
+number-none (Refused why) z = absurd (omega (arith, number-range why .0))
+
+number-some : (x : TextRead) → 0 < ofTextRead x .number → (count : ℕ) → 100000 + ofTextRead x .number ≡ countOr x count
+number-some (Words n) z count = absurd (omega arith)
+number-some (Refused why) z count = refl
 
 -- the first n of a list, as the code takes them
 pub first-part : (n : ℕ) {l m : List ℕ} → l ≡ m → take (n - 0) (drop 0 l) ≡ take n m
 first-part n e = let z : n - 0 ≡ n = omega arith in rw z (ap (λ (k : List ℕ). take n k) e)
 
-module _ (p t out : List ℕ) (room : length out ≡ 20000) {r : InputRead} (read : r ≡ inputRead p t (length out)) where
-  -- the room is the whole limit
-  at-limit : r ≡ inputRead p t 20000
-  at-limit = read ∙ ap (λ (k : ℕ). inputRead p t k) room
+module _ (p t out : List ℕ) {r : ReadBoth} (read : r ≡ ofInputRead (inputRead p t (length out))) where
+  number : r .number ≡ ofTextRead (inputRead p t (length out) .text) .number
+  number = ap (λ (b : ReadBoth). b .number) read
 
-  -- where a file is refused
-  pub count-refused : {why : Refusal} → r .text ≡ NoText why → {n : ℕ} → n ≡ numberOf why → 100000 + n ≡ countOf p t
+  pub few : r .number ≤ 15
+  few = omega (arith, number, number-small (inputRead p t (length out) .text))
+
+  -- where a file is refused; the room is the whole limit
+  pub count-refused : length out ≡ 20000 → 0 < r .number → 100000 + r .number ≡ countOf p t
   unfolding countOf
-  count-refused e h = rw (← at-limit, e, h)
+  count-refused room z = rw (number, ← room) (number-some (inputRead p t (length out) .text) (omega (arith, number)) _)
 
-  module _ {n : ℕ} (e : r .text ≡ Words n) where
-    pub both : ReadBoth p t out n
-    both = input-read p t out n (ap (λ (i : InputRead). i .text) (sym read) ∙ e)
+  shown : r .pattern ≡ inputRead p t (length out) .pattern
+  shown = ap (λ (b : ReadBoth). b .pattern) read
+
+  module _ (z : r .number ≤ 0) where
+    words-read : inputRead p t (length out) .text ≡ Words (r .words)
+    words-read = number-none (inputRead p t (length out) .text) (omega (arith, number)) ∙ ap Words (sym (ap (λ (b : ReadBoth). b .words) read))
+
+    both : BothRead p t out (r .words)
+    both = input-read p t out (r .words) words-read
 
     -- they stand in the list
-    pub fits : n ≤ length (inputWritten p t out)
-    fits = omega (arith, ap length (both .start), both .count, length-take n (inputWritten p t out))
+    pub fits : r .words ≤ length (inputWritten p t out)
+    fits = omega (arith, ap length (both .start), both .count, length-take (r .words) (inputWritten p t out))
 
-    -- the support of the pattern in the list's first n words
-    module _ {ws : List ℕ} (w : ws ≡ take n (inputWritten p t out)) {s : Listed} (h : s ≡ counted (inputVerdict (r .pattern) (length ws)) (leftmost (r .pattern) ws)) where
+    -- the support of the pattern in the list's first words
+    module _ {ws : List ℕ} (w : ws ≡ take (r .words) (inputWritten p t out)) {s : Answer} (h : s ≡ ofListed (counted (inputVerdict (r .pattern) (length ws)) (leftmost (r .pattern) ws))) where
       accepted : inputVerdict (r .pattern) (length ws) ≡ Accepted
-      accepted = rw (w ∙ both .start, both .count, read) (both .fine)
+      accepted = rw (w ∙ both .start, both .count, shown) (both .fine)
 
-      found : s ≡ Rows (length (leftmost (r .pattern) ws))
-      found = h ∙ ap (λ (v : Verdict). counted v (leftmost (r .pattern) ws)) accepted
+      found : s .value ≡ length (leftmost (r .pattern) ws)
+      found = ap (λ (a : Answer). a .value) h ∙ ap (λ (v : Verdict). ofListed (counted v (leftmost (r .pattern) ws)) .value) accepted
 
-      few-rows : {k : ℕ} → s ≡ Rows k → k ≤ 20000
-      few-rows q = omega (arith, same-rows (sym q ∙ found), leftmost-length (r .pattern) ws, input-accepted (r .pattern) (length ws) .0 accepted .short)
+      pub few-rows : s .value ≤ 20000
+      few-rows = omega (arith, found, leftmost-length (r .pattern) ws, input-accepted (r .pattern) (length ws) .0 accepted .short)
 
-      all-rows : {k : ℕ} → s ≡ Rows k → k ≡ countOf p t
+      pub count-read : length out ≡ 20000 → s .value ≡ countOf p t
       unfolding countOf
-      all-rows q = rw (← at-limit, e, ← (w ∙ both .start)) (same-rows (sym q ∙ found))
-
-      pub count-told : Told p t s
-      count-told = record { few = few-rows; rows = all-rows; fine = λ q. not-rows (sym q ∙ found) }
+      count-read room = rw (← room, words-read, ← (w ∙ both .start)) (found ∙ ap (λ (f : Pattern). length (leftmost f ws)) shown)

@@ -1,23 +1,23 @@
--- A refusal's number has two digits at the most. Assumes nothing.
+-- A refusal's number is from 1 to 15. Assumes nothing.
 use Prim.Native.Nat.{_≤_}
 use native.Mathlib.Omega.{arith}
 use Rattle.pattern.specs.declared.refusal.Refusal.{Refusal}
 use Rattle.pattern.specs.declared.refusal.Refusal.the-variants.{SlotCount, WordCount, ZeroWord, Gap, Span, TextLength, RowLength, ListLength, Tally, Names, Values, FileLength, WordListLength, Client, Served}
 use Rattle.pattern.specs.Refusals.{numberOf}
 
-pub number-small : (why : Refusal) → numberOf why ≤ 15
-number-small SlotCount = omega arith
-number-small (WordCount slot) = omega arith
-number-small (ZeroWord slot) = omega arith
-number-small (Gap slot) = omega arith
-number-small Span = omega arith
-number-small TextLength = omega arith
-number-small RowLength = omega arith
-number-small (ListLength rows) = omega arith
-number-small Tally = omega arith
-number-small (Names line) = omega arith
-number-small (Values line) = omega arith
-number-small FileLength = omega arith
-number-small WordListLength = omega arith
-number-small Client = omega arith
-number-small Served = omega arith
+pub number-range : (why : Refusal) → (1 ≤ numberOf why) × (numberOf why ≤ 15)
+number-range SlotCount = (omega arith, omega arith)
+number-range (WordCount slot) = (omega arith, omega arith)
+number-range (ZeroWord slot) = (omega arith, omega arith)
+number-range (Gap slot) = (omega arith, omega arith)
+number-range Span = (omega arith, omega arith)
+number-range TextLength = (omega arith, omega arith)
+number-range RowLength = (omega arith, omega arith)
+number-range (ListLength rows) = (omega arith, omega arith)
+number-range Tally = (omega arith, omega arith)
+number-range (Names line) = (omega arith, omega arith)
+number-range (Values line) = (omega arith, omega arith)
+number-range FileLength = (omega arith, omega arith)
+number-range WordListLength = (omega arith, omega arith)
+number-range Client = (omega arith, omega arith)
+number-range Served = (omega arith, omega arith)

@@ -4,8 +4,7 @@ use crate::answers::Made;
 use crate::answers::ReadBoth;
 use crate::answers::of_text_read;
 use crate::answers::with_pattern;
-use format::TextRead;
-use matching::Listed;
+use crate::lists::bedbloomer_support;
 ghost use mathlib.Core.Path.{_≡_};
 ghost use Prim.Native.Nat.{min};
 ghost use lib.ListN.{length};
@@ -22,19 +21,13 @@ fn count_in(pattern: &[u8], text: &[u8], words: &mut [u16]) -> u32
     requires { ⌜ length (now words) ≡ 20000 ⌝ }
     ensures { λ r. ⌜ r ≡ countOf (now (pattern .entry)) (now (text .entry)) ⌝ }
 {
-    let read = format::read_input(pattern, text, words);
-    let answer = read.text;
-    match answer {
-        TextRead::Refused(why) => 100000 + why.number(),
-        TextRead::Words(n) => {
-            let shown = read.pattern;
-            let counted = matching::support(shown, &words[0..n]);
-            match counted {
-                Listed::Rows(rows) => rows as u32,
-                Listed::Refused(why) => 100000 + why.number(),
-            }
-        }
+    let read = bedbloomer_read_input(pattern, text, words);
+    if 0 < read.number {
+        return 100000 + read.number;
     }
+    let shown = read.pattern;
+    let counted = bedbloomer_support(shown, &words[0..read.words as usize]);
+    counted.value as u32
 }
 
 // The count for a pattern file and a text file, or 100,000 plus the refusal's number.
