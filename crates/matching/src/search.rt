@@ -13,7 +13,7 @@ ghost use Rattle.matching.specs.Steps.Settling.{Ready, Visited, Placed, 
 ghost use Rattle.matching.specs.Steps.Layout.{Plan, planned};
 ghost use Rattle.matching.specs.Steps.Turning.{seen};
 
-// The places of an occurrence, 0 past the pattern's slots, and whether there is one.
+// Whether there is an occurrence, and then its places, 0 past the pattern's slots.
 pub struct Answer {
     pub places: [u16; 16],
     pub found: bool,
