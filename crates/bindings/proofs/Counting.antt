@@ -9,6 +9,7 @@ use Rattle.pattern.specs.declared.refusal.Verdict.{Verdict}
 use Rattle.pattern.specs.declared.refusal.Verdict.the-variants.{Accepted}
 use Rattle.pattern.specs.Laws.Accepting.{input-accepted}
 use Rattle.pattern.specs.Tests.{inputVerdict}
+use Rattle.matching.specs.Occurrence.{plain}
 use Rattle.matching.specs.Answers.{counted}
 use Rattle.matching.specs.Lists.{leftmost}
 use Rattle.matching.specs.Laws.Lengths.{leftmost-length}
@@ -75,7 +76,7 @@ module _ (p t out : List ℕ) {r : ReadBoth} (read : r ≡ ofInputRead (inputRea
       found = ap (λ (a : Answer). a .value) h ∙ ap (λ (v : Verdict). ofListed (counted v (leftmost (r .pattern) ws)) .value) accepted
 
       pub few-rows : s .value ≤ 20000
-      few-rows = omega (arith, found, leftmost-length (r .pattern) ws, input-accepted (r .pattern) (length ws) .0 accepted .short)
+      few-rows = omega (arith, found, leftmost-length (r .pattern) (plain (r .pattern) ws), input-accepted (r .pattern) (length ws) .0 accepted .short)
 
       pub count-read : length out ≡ 20000 → s .value ≡ countOf p t
       unfolding countOf

@@ -9,10 +9,12 @@ use lib.ListN.{length}
 use borrow.Author.Tests.{lt-ltb, le-ltb}
 use Rattle.pattern.specs.declared.Pattern.{Pattern}
 use Rattle.pattern.specs.Patterns.{slotAt}
+use Rattle.pattern.specs.Accepted.{Accepted}
+use Rattle.matching.specs.Occurrence.{View}
 use Rattle.counting.specs.Laws.Inputs.{gaps}
 use Rattle.counting.specs.Inputs.{Input}
 use Rattle.matching.specs.Laws.Sums.{total, total-same, total-none, rest, run-inside, run-past}
-use Rattle.matching.specs.Laws.Branches.{when, fits, ways}
+use Rattle.matching.specs.Laws.Branches.{when, stands, ways}
 use Rattle.matching.specs.Laws.Cover.{far}
 use Rattle.counting.specs.Laws.Bound.{total-fits, far-bound}
 use Rattle.counting.specs.Numbers.{val}
@@ -49,76 +51,75 @@ module _ (v : ℕ → ℕ) (first n : ℕ) (none : (q : ℕ) → first + n + 1 �
         (omega (arith, total-none (high + 1 - low) v (first + i + 1 + low + 1) (λ q y. none q (omega arith))))
   ]
 
-module _ (f : Pattern) (t : List ℕ) (first n more from : ℕ) where
+module _ (f : Pattern) (v : View) (first n more from : ℕ) where
   abbrev stop : ℕ → ℕ
   stop = stopAt f first n more
 
-  pub fits-inside : {M : List ℕ} → Marked f t M → first + n ≤ length t → (i j : ℕ) → j < f .count → i < size f n more j
-      → fits f t stop from j (first + i + 1) ≡ marked M (j * 20000 + first + i)
-  unfolding fits stopAt size
+  pub fits-inside : {M : List ℕ} → Marked f v M → first + n ≤ v .places → (i j : ℕ) → j < f .count → i < size f n more j
+      → stands f v stop from j (first + i + 1) ≡ marked M (j * 20000 + first + i)
+  unfolding stands stopAt size
   fits-inside m short i j l h =
       let a : first + i + 1 < first + size f n more j + 1 = omega arith in
-      let e : first + i + 1 - 1 ≡ first + i = omega arith in
       let d : j * 20000 + first + i ≡ j * 20000 + (first + i) = omega arith in
-      rw (lt-ltb (first + i + 1) (first + size f n more j + 1) a, e, d) (sym (m .mark j l (first + i) (omega arith)))
+      rw (lt-ltb (first + i + 1) (first + size f n more j + 1) a, d) (sym (m .mark j l (first + i) (omega arith)))
 
-  ways-none : (k j p : ℕ) → stop j ≤ p → ways f t stop from k j p ≡ 0
-  unfolding ways when fits
+  ways-none : (k j p : ℕ) → stop j ≤ p → ways f v stop from k j p ≡ 0
+  unfolding ways when stands
   ways-none zero j p h = rw (le-ltb p (stop j) h)
   ways-none (suc k) j p h = rw (le-ltb p (stop j) h)
 
   -- the row of slot j, with k slots after it, before it is summed
   pub record Row (k j : ℕ) (H L : List ℕ) : Type 0 where
-    pub row : (i : ℕ) → i < size f n more j → val H L i ≡ ways f t stop from k j (first + i + 1)
+    pub row : (i : ℕ) → i < size f n more j → val H L i ≡ ways f v stop from k j (first + i + 1)
     pub stopped : val H L (size f n more j) ≡ 0
 
-  pub end-row : {j m : ℕ} {M H L : List ℕ} → Marked f t M → first + n ≤ length t → j < f .count → m ≡ size f n more j
+  pub end-row : {j m : ℕ} {M H L : List ℕ} → Marked f v M → first + n ≤ v .places → j < f .count → m ≡ size f n more j
       → Ended M (j * 20000 + first) first m from H L → Row zero j H L
   unfolding ways
   end-row {j} mk short l q e = let d = rw q at e in record { row = λ i h. rw (fits-inside mk short i j l h) (d .row i h); stopped = d .stop }
 
-  spread-row′ : {k j : ℕ} {M H L H′ L′ : List ℕ} → Marked f t M → first + n ≤ length t → j < f .count
-      → slotAt f (suc j) .low ≤ slotAt f (suc j) .high → size f n more j ≤ size f n more (suc j) → Holds f t first n more from k (suc j) H L
+  spread-row′ : {k j : ℕ} {M H L H′ L′ : List ℕ} → Marked f v M → first + n ≤ v .places → j < f .count
+      → slotAt f (suc j) .low ≤ slotAt f (suc j) .high → size f n more j ≤ size f n more (suc j) → Holds f v first n more from k (suc j) H L
       → Spread M (j * 20000 + first) (slotAt f (suc j) .low) (slotAt f (suc j) .high) (size f n more j) (size f n more (suc j)) H L H′ L′ → Row (suc k) j H′ L′
   unfolding ways stopAt
   spread-row′ {k} {j} {M} {H} {L} mk short x l y s e =
-      let v = ways f t stop from k (suc j) in
+      let on = ways f v stop from k (suc j) in
       let m = size f n more (suc j) in
       let lo = slotAt f (suc j) .low in
       let hi = slotAt f (suc j) .high in
       record {
         row = λ i h.
-            let d : val H L (min (i + lo + 1) m) - val H L (min (i + hi + 2) m) ≡ total (hi + 1 - lo) v (first + i + 1 + lo + 1) =
-            rw (s .sums (min (i + lo + 1) m) (omega arith), s .sums (min (i + hi + 2) m) (omega arith)) (window v first m (ways-none k (suc j)) i lo hi (omega arith) l) in
+            let d : val H L (min (i + lo + 1) m) - val H L (min (i + hi + 2) m) ≡ total (hi + 1 - lo) on (first + i + 1 + lo + 1) =
+            rw (s .sums (min (i + lo + 1) m) (omega arith), s .sums (min (i + hi + 2) m) (omega arith)) (window on first m (ways-none k (suc j)) i lo hi (omega arith) l) in
             rw (fits-inside mk short i j x h, ← d) (e .row i h);
         stopped = e .stop;
       }
 
-  pub spread-row : {k j j′ low high a b : ℕ} {M H L H′ L′ : List ℕ} → Marked f t M → first + n ≤ length t → j′ < f .count → j ≡ suc j′
+  pub spread-row : {k j j′ low high a b : ℕ} {M H L H′ L′ : List ℕ} → Marked f v M → first + n ≤ v .places → j′ < f .count → j ≡ suc j′
       → low ≡ slotAt f j .low → high ≡ slotAt f j .high → slotAt f j .low ≤ slotAt f j .high → a ≡ size f n more j′ → b ≡ size f n more j → a ≤ b
-      → Holds f t first n more from k j H L → Spread M (j′ * 20000 + first) low high a b H L H′ L′ → Row (suc k) j′ H′ L′
+      → Holds f v first n more from k j H L → Spread M (j′ * 20000 + first) low high a b H L H′ L′ → Row (suc k) j′ H′ L′
   spread-row {j′ = j′} mk short x q el eh l ea eb y s e = spread-row′ mk short x (rw q at l) (rw (ea, eb, q) at y) (rw q at s) (rw (el, eh, ea, eb, q) at e)
 
   module _ {k j : ℕ} {H L : List ℕ} (r : Row k j H L) where
-    shift : (i : ℕ) → i ≤ size f n more j → rest (val H L) (size f n more j) i ≡ rest (ways f t stop from k j) (stop j) (first + i + 1)
+    shift : (i : ℕ) → i ≤ size f n more j → rest (val H L) (size f n more j) i ≡ rest (ways f v stop from k j) (stop j) (first + i + 1)
     unfolding stopAt
-    shift = rest-shift (val H L) (ways f t stop from k j) first (size f n more j) (r .row)
+    shift = rest-shift (val H L) (ways f v stop from k j) first (size f n more j) (r .row)
 
-    pub row-summable : {m : ℕ} → Input f t → j + k < f .count → n ≤ 20000 → m ≡ size f n more j → Summable m H L
+    pub row-summable : {m : ℕ} → Input f v → j + k < f .count → n ≤ 20000 → m ≡ size f n more j → Summable m H L
     unfolding rest stopAt size
     row-summable ok h short q = rw q record {
       stop = r .stopped;
-      fits = λ i l. rw (shift i l) (total-fits f t (gaps ok) (stop j - (first + i + 1)) k stop from j (first + i + 1) h (ok .pattern .few) (omega arith));
+      fits = λ i l. rw (shift i l) (total-fits f v (gaps (ok .pattern)) (stop j - (first + i + 1)) k stop from j (first + i + 1) h (ok .pattern .few) (omega arith));
     }
 
-    pub row-holds : {m : ℕ} {H′ L′ : List ℕ} → m ≡ size f n more j → Summed m H L H′ L′ → Holds f t first n more from k j H′ L′
+    pub row-holds : {m : ℕ} {H′ L′ : List ℕ} → m ≡ size f n more j → Summed m H L H′ L′ → Holds f v first n more from k j H′ L′
     row-holds q s = let d = rw q at s in record { sums = λ i l. d .sums i l ∙ shift i l }
 
-  pub holds-falling : {k j m : ℕ} {H L : List ℕ} → m ≡ size f n more j → Holds f t first n more from k j H L → Falling m H L
+  pub holds-falling : {k j m : ℕ} {H L : List ℕ} → m ≡ size f n more j → Holds f v first n more from k j H L → Falling m H L
   unfolding stopAt
   holds-falling {k} {j} {m} q s = rw q record {
     falls = λ a b x y. rw (s .sums a (omega arith), s .sums b y)
-        (rest-falls (ways f t stop from k j) (stop j) (first + a + 1) (first + b + 1) (omega arith) (omega arith));
+        (rest-falls (ways f v stop from k j) (stop j) (first + a + 1) (first + b + 1) (omega arith) (omega arith));
   }
 
 -- ---- the loop over the slots: the slot j is done, its row has m places, and it is at most r from the first
@@ -129,15 +130,15 @@ pub record Stage (f : Pattern) (n more j r m : ℕ) : Type 0 where
   pub reach : r ≡ far f j
   pub rows : m ≡ size f n more j
 
-pub record Counting (f : Pattern) (t : List ℕ) (first n more from : ℕ) (H₀ L₀ : List ℕ) (j r m : ℕ) (H L : List ℕ) : Type 0 where
+pub record Counting (f : Pattern) (v : View) (first n more from : ℕ) (H₀ L₀ : List ℕ) (j r m : ℕ) (H L : List ℕ) : Type 0 where
   pub long : length H ≡ length H₀
   pub long′ : length L ≡ length L₀
   pub room : Room n H L
   pub here : Stage f n more j r m
-  pub holds : Holds f t first n more from (f .count - 1 - j) j H L
+  pub holds : Holds f v first n more from (f .count - 1 - j) j H L
 
-pub counting-begin : {f : Pattern} {t : List ℕ} {first n more from r m : ℕ} {H L : List ℕ} → 1 ≤ f .count → Room n H L → r ≡ far f (f .count - 1)
-    → m ≡ size f n more (f .count - 1) → Holds f t first n more from 0 (f .count - 1) H L → Counting f t first n more from H L (f .count - 1) r m H L
+pub counting-begin : {f : Pattern} {v : View} {first n more from r m : ℕ} {H L : List ℕ} → 1 ≤ f .count → Room n H L → r ≡ far f (f .count - 1)
+    → m ≡ size f n more (f .count - 1) → Holds f v first n more from 0 (f .count - 1) H L → Counting f v first n more from H L (f .count - 1) r m H L
 counting-begin {f} h room x y s = record {
   long = refl;
   long′ = refl;
@@ -168,11 +169,11 @@ module _ {f : Pattern} {n more j r m : ℕ} (c : Stage f n more j r m) (pos : 0 
     size-less = let x = c .rows in let y = c .reach in let z = reach-back in (omega arith, omega arith)
 
 -- what the next turn of the loop keeps
-module _ {f : Pattern} {t : List ℕ} {first n more from : ℕ} {H₀ L₀ : List ℕ} {j r m : ℕ} {H L : List ℕ}
-    (c : Counting f t first n more from H₀ L₀ j r m H L) (pos : 0 < j) {high : ℕ} (eh : high ≡ slotAt f j .high) where
+module _ {f : Pattern} {v : View} {first n more from : ℕ} {H₀ L₀ : List ℕ} {j r m : ℕ} {H L : List ℕ}
+    (c : Counting f v first n more from H₀ L₀ j r m H L) (pos : 0 < j) {high : ℕ} (eh : high ≡ slotAt f j .high) where
   module _ {a : ℕ} (ea : a ≡ min n (more + (r - high - 1) + 1)) where
-    pub counting-more : {H′ L′ : List ℕ} → length H′ ≡ length H → length L′ ≡ length L → Holds f t first n more from (suc (f .count - 1 - j)) (j - 1) H′ L′
-        → Counting f t first n more from H₀ L₀ (j - 1) (r - high - 1) a H′ L′
+    pub counting-more : {H′ L′ : List ℕ} → length H′ ≡ length H → length L′ ≡ length L → Holds f v first n more from (suc (f .count - 1 - j)) (j - 1) H′ L′
+        → Counting f v first n more from H₀ L₀ (j - 1) (r - high - 1) a H′ L′
     counting-more x y s =
         let i = c .here .inside in
         let rh = c .room .high in
@@ -186,8 +187,8 @@ module _ {f : Pattern} {t : List ℕ} {first n more from : ℕ} {H₀ L₀ : Lis
           holds = let e : f .count - 1 - (j - 1) ≡ suc (f .count - 1 - j) = omega arith in rw e s;
         }
 
-pub counted : {f : Pattern} {t : List ℕ} {first n more from : ℕ} {H₀ L₀ : List ℕ} {j r m : ℕ} {H L : List ℕ} → Counting f t first n more from H₀ L₀ j r m H L → j ≤ 0
-    → Holds f t first n more from (f .count - 1) 0 H L
+pub counted : {f : Pattern} {v : View} {first n more from : ℕ} {H₀ L₀ : List ℕ} {j r m : ℕ} {H L : List ℕ} → Counting f v first n more from H₀ L₀ j r m H L → j ≤ 0
+    → Holds f v first n more from (f .count - 1) 0 H L
 counted {f} {j = j} c h = let e : 0 ≡ j = omega arith in let d : f .count - 1 ≡ f .count - 1 - j = omega arith in rw (d, e) (c .holds)
 
 pub size-of : (f : Pattern) (n more r j : ℕ) {m : ℕ} → m ≡ min n (more + r + 1) → r ≡ far f j → (m ≡ size f n more j) × (m ≤ n)
@@ -198,5 +199,5 @@ pub room-less : {n m : ℕ} {H L H′ L′ : List ℕ} → Room n H L → m ≤ 
 room-less r h x y = let rh = r .high in let rl = r .low in record { high = omega arith; low = omega arith }
 
 -- no slot is further than this
-pub reach-bound : {f : Pattern} {t : List ℕ} → Input f t → (j : ℕ) → j < f .count → far f j ≤ 960
-reach-bound ok j h = let few = ok .pattern .few in omega (arith, far-bound ok j h)
+pub reach-bound : {f : Pattern} → Accepted f → (j : ℕ) → j < f .count → far f j ≤ 960
+reach-bound ok j h = let few = ok .few in omega (arith, far-bound ok j h)

@@ -13,6 +13,7 @@ use borrow.Author.Tests.{eq-eqb, ne-eqb, le-leb, lt-leb}
 use borrow.Author.Count.{below-more}
 use Rattle.pattern.specs.declared.slot.Slot.{Slot}
 use Rattle.pattern.specs.Patterns.{takes}
+use Rattle.matching.specs.Occurrence.{takesAt}
 use Rattle.matching.specs.Laws.Sums.{total, rest, rest-step}
 use Rattle.matching.specs.Laws.Branches.{when}
 use Rattle.counting.specs.Numbers.{val}
@@ -195,17 +196,21 @@ spreaded {n = n} {H = H} {L = L} s fit room h =
 
 -- ---- the marks of a slot: done below i
 
-pub record Marking (w : Slot) (t : List ℕ) (at : ℕ) (M₀ : List ℕ) (i : ℕ) (M : List ℕ) : Type 0 where
+-- the word at index i is that at place i + 1
+pub word-at : (s : Slot) (t : List ℕ) (i : ℕ) {r : Bool} → r ≡ takes s (getD t i 0) → r ≡ takesAt s t (i + 1)
+word-at s t i e = let z : i + 1 - 1 ≡ i = omega arith in rw z e
+
+pub record Marking (fits : ℕ → Bool) (at : ℕ) (M₀ : List ℕ) (i : ℕ) (M : List ℕ) : Type 0 where
   pub long : length M ≡ length M₀
-  pub here : (k : ℕ) → k < i → marked M (at + k) ≡ takes w (getD t k 0)
+  pub here : (k : ℕ) → k < i → marked M (at + k) ≡ fits (k + 1)
   pub before : (k : ℕ) → k < at → getD M k 0 ≡ getD M₀ k 0
 
-pub mark-begin : {w : Slot} {t : List ℕ} {at : ℕ} {M : List ℕ} → Marking w t at M 0 M
+pub mark-begin : {fits : ℕ → Bool} {at : ℕ} {M : List ℕ} → Marking fits at M 0 M
 mark-begin = record { long = refl; here = λ k h. absurd (omega arith); before = λ k h. refl }
 
-pub mark-more : {w : Slot} {t : List ℕ} {at : ℕ} {M₀ : List ℕ} {i : ℕ} {M : List ℕ} → Marking w t at M₀ i M
-    → at + length t ≤ length M₀ → i < length t → {r : Bool} (v : ℕ) → r ≡ takes w (getD t i 0) → eqb v 1 ≡ r
-    → Marking w t at M₀ (i + 1) (set M (at + i) v)
+pub mark-more : {fits : ℕ → Bool} {n at : ℕ} {M₀ : List ℕ} {i : ℕ} {M : List ℕ} → Marking fits at M₀ i M
+    → at + n ≤ length M₀ → i < n → {r : Bool} (v : ℕ) → r ≡ fits (i + 1) → eqb v 1 ≡ r
+    → Marking fits at M₀ (i + 1) (set M (at + i) v)
 mark-more {at = at} {i = i} {M = M} s room h v e q =
     let l = s .long in
     record {
@@ -216,6 +221,6 @@ mark-more {at = at} {i = i} {M = M} s room h v e q =
       before = λ k x. getD-set-other M (at + i) k v 0 (λ z. omega arith) ∙ s .before k x;
     }
 
-pub slot-marked : {w : Slot} {t : List ℕ} {at : ℕ} {M₀ : List ℕ} {i : ℕ} {M : List ℕ} → Marking w t at M₀ i M
-    → length t ≤ i → SlotMarked w t at M₀ M
+pub slot-marked : {fits : ℕ → Bool} {n at : ℕ} {M₀ : List ℕ} {i : ℕ} {M : List ℕ} → Marking fits at M₀ i M
+    → n ≤ i → SlotMarked fits n at M₀ M
 slot-marked s h = record { here = λ k x. s .here k (omega arith); before = s .before }

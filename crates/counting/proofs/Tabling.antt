@@ -10,9 +10,10 @@ use lib.Dec.{leb}
 use borrow.Author.Tests.{le-ltb, leb-true, leb-false}
 use Rattle.pattern.specs.declared.Pattern.{Pattern}
 use Rattle.pattern.specs.Patterns.{slotAt}
+use Rattle.matching.specs.Occurrence.{View}
 use Rattle.matching.specs.Occurrences.{places}
 use Rattle.matching.specs.Laws.Sums.{gather}
-use Rattle.matching.specs.Laws.Branches.{only, fits, branches}
+use Rattle.matching.specs.Laws.Branches.{only, stands, branches}
 use Rattle.matching.specs.Laws.Cover.{far}
 use Rattle.counting.specs.Steps.{marked, Marked, size, stopAt}
 use Rattle.counting.specs.Tables.{Least, Reached, ends, leads, Next, rowsOf, Tabled}
@@ -61,15 +62,15 @@ unfolding gather places
 gather-shift zero g d x y e = refl
 gather-shift (suc c) g d x y e = rw (gather-shift c g d (suc x) (suc y) (omega arith)) (ap (λ (k : ℕ). g k ++ gather (λ z. g (d + z + 1)) (places (suc x) c)) e)
 
-module _ (f : Pattern) (t : List ℕ) (first n more from : ℕ) where
+module _ (f : Pattern) (v : View) (first n more from : ℕ) where
   abbrev stop : ℕ → ℕ
   stop = stopAt f first n more
 
   abbrev rows : ℕ → ℕ → ℕ → List (List ℕ)
-  rows = rowsOf f t first n more from
+  rows = rowsOf f v first n more from
 
   pub rows-past : (k j x : ℕ) → size f n more j ≤ x → rows k j x ≡ []
-  unfolding rowsOf branches only fits stopAt
+  unfolding rowsOf branches only stands stopAt
   rows-past zero j x h = rw (le-ltb (first + x + 1) (first + size f n more j + 1) (omega arith))
   rows-past (suc k) j x h = rw (le-ltb (first + x + 1) (first + size f n more j + 1) (omega arith))
 
@@ -78,23 +79,23 @@ module _ (f : Pattern) (t : List ℕ) (first n more from : ℕ) where
   unfolding rowsOf branches
   rows-last j x h =
       let p = first + x + 1 in
-      by-case (fits f t stop from j p && leb from p) (λ e. only-some ((p ∷ []) ∷ []) e) (λ e. absurd (h (only-none ((p ∷ []) ∷ []) e)))
+      by-case (stands f v stop from j p && leb from p) (λ e. only-some ((p ∷ []) ∷ []) e) (λ e. absurd (h (only-none ((p ∷ []) ∷ []) e)))
 
   -- an earlier slot, with the gap before the next
   module _ (k j : ℕ) {low high : ℕ} (el : low ≡ slotAt f (suc j) .low) (eh : high ≡ slotAt f (suc j) .high) (x : ℕ) where
     abbrev onward : List (List ℕ)
     onward = run (rows k (suc j)) (x + low + 1) (x + high + 1 + 1)
 
-    rows-on : rows (suc k) j x ≡ only (fits f t stop from j (first + x + 1)) (map (λ r. (first + x + 1) ∷ r) onward)
+    rows-on : rows (suc k) j x ≡ only (stands f v stop from j (first + x + 1)) (map (λ r. (first + x + 1) ∷ r) onward)
     unfolding rowsOf branches run
     rows-on =
         let c : slotAt f (suc j) .high + 1 - slotAt f (suc j) .low ≡ x + high + 1 + 1 - (x + low + 1) = omega arith in
-        ap (λ (R : List (List ℕ)). only (fits f t stop from j (first + x + 1)) (map (λ r. (first + x + 1) ∷ r) R))
-        (ap (λ (z : ℕ). gather (branches f t stop from k (suc j)) (places (first + x + 1 + slotAt f (suc j) .low + 1) z)) c
-        ∙ gather-shift (x + high + 1 + 1 - (x + low + 1)) (branches f t stop from k (suc j)) first (x + low + 1) (first + x + 1 + slotAt f (suc j) .low + 1) (omega arith))
+        ap (λ (R : List (List ℕ)). only (stands f v stop from j (first + x + 1)) (map (λ r. (first + x + 1) ∷ r) R))
+        (ap (λ (z : ℕ). gather (branches f v stop from k (suc j)) (places (first + x + 1 + slotAt f (suc j) .low + 1) z)) c
+        ∙ gather-shift (x + high + 1 + 1 - (x + low + 1)) (branches f v stop from k (suc j)) first (x + low + 1) (first + x + 1 + slotAt f (suc j) .low + 1) (omega arith))
 
     pub rows-step : (rows (suc k) j x ≡ [] → ⊥) → rows (suc k) j x ≡ map (λ r. (first + x + 1) ∷ r) onward
-    rows-step h = by-case (fits f t stop from j (first + x + 1)) (λ e. rows-on ∙ only-some (map (λ r. (first + x + 1) ∷ r) onward) e) (λ e. absurd (h (rows-on ∙ only-none (map (λ r. (first + x + 1) ∷ r) onward) e)))
+    rows-step h = by-case (stands f v stop from j (first + x + 1)) (λ e. rows-on ∙ only-some (map (λ r. (first + x + 1) ∷ r) onward) e) (λ e. absurd (h (rows-on ∙ only-none (map (λ r. (first + x + 1) ∷ r) onward) e)))
 
     pub rows-child : (rows (suc k) j x ≡ [] → ⊥) → x + low + 1 ≤ size f n more (suc j)
     rows-child h = elim (decLe (x + low + 1) (size f n more (suc j))) [
@@ -104,12 +105,12 @@ module _ (f : Pattern) (t : List ℕ) (first n more from : ℕ) where
 
   -- ---- the tests of the two steps tell
 
-  module _ {M : List ℕ} (mk : Marked f t M) (short : first + n ≤ length t) (j : ℕ) (slot : j < f .count) where
+  module _ {M : List ℕ} (mk : Marked f v M) (short : first + n ≤ v .places) (j : ℕ) (slot : j < f .count) where
     ends-tells : Tells (ends M (j * 20000 + first) first from) (rows zero j) (size f n more j)
     unfolding rowsOf branches
     ends-tells =
-        let same : (x : ℕ) → x < size f n more j → (fits f t stop from j (first + x + 1) && leb from (first + x + 1)) ≡ ends M (j * 20000 + first) first from x =
-        λ x h. ap (λ (b : Bool). b && leb from (first + x + 1)) (fits-inside f t first n more from mk short x j slot h) in
+        let same : (x : ℕ) → x < size f n more j → (stands f v stop from j (first + x + 1) && leb from (first + x + 1)) ≡ ends M (j * 20000 + first) first from x =
+        λ x h. ap (λ (b : Bool). b && leb from (first + x + 1)) (fits-inside f v first n more from mk short x j slot h) in
         record {
           some = λ x h e z.
               let o = sym (only-some (((first + x + 1) ∷ []) ∷ []) (same x h ∙ e)) ∙ z in
@@ -125,8 +126,8 @@ module _ (f : Pattern) (t : List ℕ) (first n more from : ℕ) where
     leads-tells k {low} {high} {m} N el eh narrow few next =
         let entry : ℕ → ℕ = λ x. getD N (j * 20001 + 20001 + min (x + low + 1) m) 0 in
         let here : (x : ℕ) → Next (rows k (suc j)) m (min (x + low + 1) m) (entry x) = λ x. next (min (x + low + 1) m) (omega arith) in
-        let same : (x : ℕ) → x < size f n more j → fits f t stop from j (first + x + 1) ≡ marked M (j * 20000 + first + x) =
-        λ x h. fits-inside f t first n more from mk short x j slot h in
+        let same : (x : ℕ) → x < size f n more j → stands f v stop from j (first + x + 1) ≡ marked M (j * 20000 + first + x) =
+        λ x h. fits-inside f v first n more from mk short x j slot h in
         record {
           some = λ x h e z.
               let b = and-eq-true-iff (marked M (j * 20000 + first + x)) (leb (entry x) (x + high + 1)) .0 e in
@@ -146,14 +147,14 @@ module _ (f : Pattern) (t : List ℕ) (first n more from : ℕ) where
 
 -- ---- the table slot by slot: done from slot j on
 
-pub record Tabling (f : Pattern) (t : List ℕ) (first n more from : ℕ) (N₀ : List ℕ) (j r m : ℕ) (N : List ℕ) : Type 0 where
+pub record Tabling (f : Pattern) (v : View) (first n more from : ℕ) (N₀ : List ℕ) (j r m : ℕ) (N : List ℕ) : Type 0 where
   pub long : length N ≡ length N₀
   pub here : Stage f n more j r m
-  pub table : Tabled f t first n more from j N
+  pub table : Tabled f v first n more from j N
 
-module _ (f : Pattern) (t : List ℕ) (first n more from : ℕ) where
-  pub tabling-begin : {M N₀ N : List ℕ} {r m : ℕ} → Marked f t M → 1 ≤ f .count → first + n ≤ length t → r ≡ far f (f .count - 1) → m ≡ size f n more (f .count - 1)
-      → Reached (ends M ((f .count - 1) * 20000 + first) first from) m ((f .count - 1) * 20001) N₀ N → Tabling f t first n more from N (f .count - 1) r m N
+module _ (f : Pattern) (v : View) (first n more from : ℕ) where
+  pub tabling-begin : {M N₀ N : List ℕ} {r m : ℕ} → Marked f v M → 1 ≤ f .count → first + n ≤ v .places → r ≡ far f (f .count - 1) → m ≡ size f n more (f .count - 1)
+      → Reached (ends M ((f .count - 1) * 20000 + first) first from) m ((f .count - 1) * 20001) N₀ N → Tabling f v first n more from N (f .count - 1) r m N
   tabling-begin {M} {N₀} {N} {r} {m} mk some short er em s = record {
     long = refl;
     here = record { inside = omega arith; reach = er; rows = em };
@@ -163,14 +164,14 @@ module _ (f : Pattern) (t : List ℕ) (first n more from : ℕ) where
           let d : a ≡ j = omega arith in
           let k : f .count - 1 - a ≡ 0 = omega arith in
           let i′ : i ≤ m = rw em (rw d at h) in
-          rw (k, d) (told (ends-tells f t first n more from mk short j (omega arith)) (rw em at (s .row i i′)));
+          rw (k, d) (told (ends-tells f v first n more from mk short j (omega arith)) (rw em at (s .row i i′)));
     };
   }
 
-  pub tabling-more : {M N₀ N N′ : List ℕ} {j r m low high a : ℕ} → Marked f t M → first + n ≤ length t → n ≤ 20000 → Tabling f t first n more from N₀ j r m N → 0 < j
+  pub tabling-more : {M N₀ N N′ : List ℕ} {j r m low high a : ℕ} → Marked f v M → first + n ≤ v .places → n ≤ 20000 → Tabling f v first n more from N₀ j r m N → 0 < j
       → low ≡ slotAt f j .low → high ≡ slotAt f j .high → high ≤ 63 → a ≡ min n (more + (r - high - 1) + 1) → length N′ ≡ length N
       → Reached (leads M ((j - 1) * 20000 + first) low high m ((j - 1) * 20001) N) a ((j - 1) * 20001) N N′
-      → Tabling f t first n more from N₀ (j - 1) (r - high - 1) a N′
+      → Tabling f v first n more from N₀ (j - 1) (r - high - 1) a N′
   tabling-more {M} {N₀} {N} {N′} {j} {r} {m} {low} {high} {a} mk short few c pos el eh narrow ea long s =
       let inside = c .here .inside in
       let rows = c .here .rows in
@@ -180,10 +181,10 @@ module _ (f : Pattern) (t : List ℕ) (first n more from : ℕ) where
       let k = f .count - 1 - j in
       let el′ : low ≡ slotAt f (suc (j - 1)) .low = rw ej el in
       let eh′ : high ≡ slotAt f (suc (j - 1)) .high = rw ej eh in
-      let next : (i : ℕ) → i ≤ m → Next (rowsOf f t first n more from k (suc (j - 1))) m i (getD N ((j - 1) * 20001 + 20001 + i) 0) = λ i h.
+      let next : (i : ℕ) → i ≤ m → Next (rowsOf f v first n more from k (suc (j - 1))) m i (getD N ((j - 1) * 20001 + 20001 + i) 0) = λ i h.
       let at : j * 20001 + i ≡ (j - 1) * 20001 + 20001 + i = omega arith in
       rw (ej, ← at) (rw (← rows) at (c .table .next j (omega arith) inside i (rw (← rows) h))) in
-      let tells = leads-tells f t first n more from mk short (j - 1) (omega arith) k N el′ eh′ narrow (omega arith) next in
+      let tells = leads-tells f v first n more from mk short (j - 1) (omega arith) k N el′ eh′ narrow (omega arith) next in
       record {
         long = long ∙ c .long;
         here = record { inside = omega arith; reach = reach-back (c .here) pos eh .2; rows = sa };
@@ -198,5 +199,5 @@ module _ (f : Pattern) (t : List ℕ) (first n more from : ℕ) where
         };
       }
 
-  pub tabled : {N₀ N : List ℕ} {j r m : ℕ} → Tabling f t first n more from N₀ j r m N → j ≤ 0 → Tabled f t first n more from 0 N
+  pub tabled : {N₀ N : List ℕ} {j r m : ℕ} → Tabling f v first n more from N₀ j r m N → j ≤ 0 → Tabled f v first n more from 0 N
   tabled {j = j} c h = let e : 0 ≡ j = omega arith in rw e (c .table)

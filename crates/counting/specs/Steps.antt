@@ -6,26 +6,34 @@ use mathlib.Core.Path.{_≡_}
 use lib.ListN.{length, getD}
 use lib.Dec.{leb, eqb}
 use Rattle.pattern.specs.declared.Pattern.{Pattern}
-use Rattle.pattern.specs.Patterns.{takes, slotAt}
-use Rattle.pattern.specs.declared.slot.Slot.{Slot}
+use Rattle.pattern.specs.Patterns.{slotAt}
+use Rattle.matching.specs.Occurrence.{View}
 use Rattle.matching.specs.Laws.Sums.{rest}
 use Rattle.matching.specs.Laws.Branches.{when, ways}
 use Rattle.matching.specs.Laws.Cover.{near, far}
+use Rattle.counting.specs.Inputs.{Input}
 use Rattle.counting.specs.Numbers.{val}
 
 -- the mark at an index
 abbrev pub marked : List ℕ → ℕ → Bool
 marked M i = eqb (getD M i 0) 1
 
--- the marks of one slot, from the index `at` on; what stands before is as it was
-pub record SlotMarked (s : Slot) (t : List ℕ) (at : ℕ) (M M′ : List ℕ) : Type 0 where
-  pub here : (i : ℕ) → i < length t → marked M′ (at + i) ≡ takes s (getD t i 0)
+-- the marks of one slot, from the index `at` on: which of n places it fits; what stands before is as it was
+pub record SlotMarked (fits : ℕ → Bool) (n at : ℕ) (M M′ : List ℕ) : Type 0 where
+  pub here : (i : ℕ) → i < n → marked M′ (at + i) ≡ fits (i + 1)
   pub before : (k : ℕ) → k < at → getD M′ k 0 ≡ getD M k 0
 
--- which slot takes which word of the text
-pub record Marked (f : Pattern) (t M : List ℕ) : Type 0 where
+-- which slot fits which place
+pub record Marked (f : Pattern) (v : View) (M : List ℕ) : Type 0 where
   pub size : 320000 ≤ length M
-  pub mark : (j : ℕ) → j < f .count → (i : ℕ) → i < length t → marked M (j * 20000 + i) ≡ takes (slotAt f j) (getD t i 0)
+  pub mark : (j : ℕ) → j < f .count → (i : ℕ) → i < v .places → marked M (j * 20000 + i) ≡ v .fits j (i + 1)
+
+-- what a run over a window is given: the n places from `first` + 1 on of some view, and which slot fits which of its places
+pub record Window (f : Pattern) (M : List ℕ) (first n : ℕ) : Type 0 where
+  pub view : View
+  pub input : Input f view
+  pub marks : Marked f view M
+  pub inside : first + n ≤ view .places
 
 -- room for n numbers and one more
 pub record Room (n : ℕ) (H L : List ℕ) : Type 0 where
@@ -64,9 +72,9 @@ unfoldable pub stopAt : Pattern → ℕ → ℕ → ℕ → ℕ → ℕ
 stopAt f first n more j = first + size f n more j + 1
 
 -- the sums of the row of slot j, with k slots after it
-pub record Holds (f : Pattern) (t : List ℕ) (first n more from k j : ℕ) (H L : List ℕ) : Type 0 where
-  pub sums : (i : ℕ) → i ≤ size f n more j → val H L i ≡ rest (ways f t (stopAt f first n more) from k j) (stopAt f first n more j) (first + i + 1)
+pub record Holds (f : Pattern) (v : View) (first n more from k j : ℕ) (H L : List ℕ) : Type 0 where
+  pub sums : (i : ℕ) → i ≤ size f n more j → val H L i ≡ rest (ways f v (stopAt f first n more) from k j) (stopAt f first n more j) (first + i + 1)
 
 -- the span limits cannot bind: no row within the gaps is too short, and none in the text too long
-unfoldable pub free : Pattern → List ℕ → Bool
-free f t = leb (f .least) (near f (f .count - 1) + 1) && leb (min (far f (f .count - 1) + 1) (length t)) (f .most)
+unfoldable pub free : Pattern → View → Bool
+free f v = leb (f .least) (near f (f .count - 1) + 1) && leb (min (far f (f .count - 1) + 1) (v .places)) (f .most)

@@ -7,6 +7,7 @@ use mathlib.Core.Path.{_≡_}
 use lib.ListN.{getD}
 use lib.Dec.{leb}
 use Rattle.pattern.specs.declared.Pattern.{Pattern}
+use Rattle.matching.specs.Occurrence.{View}
 use Rattle.matching.specs.Laws.Branches.{branches}
 use Rattle.counting.specs.Steps.{marked, size, stopAt}
 
@@ -40,13 +41,13 @@ pub record Next (g : ℕ → List (List ℕ)) (n i v : ℕ) : Type 0 where
   pub here : v < 65535 → (v < n) × (g v ≡ [] → ⊥)
 
 -- the rows of slot j and the k after it that start at an index
-unfoldable pub rowsOf : Pattern → List ℕ → ℕ → ℕ → ℕ → ℕ → ℕ → ℕ → ℕ → List (List ℕ)
-rowsOf f t first n more from k j x = branches f t (stopAt f first n more) from k j (first + x + 1)
+unfoldable pub rowsOf : Pattern → View → ℕ → ℕ → ℕ → ℕ → ℕ → ℕ → ℕ → List (List ℕ)
+rowsOf f v first n more from k j x = branches f v (stopAt f first n more) from k j (first + x + 1)
 
 -- and all the slots after it
-abbrev pub rowsAt : Pattern → List ℕ → ℕ → ℕ → ℕ → ℕ → ℕ → ℕ → List (List ℕ)
-rowsAt f t first n more from j = rowsOf f t first n more from (f .count - 1 - j) j
+abbrev pub rowsAt : Pattern → View → ℕ → ℕ → ℕ → ℕ → ℕ → ℕ → List (List ℕ)
+rowsAt f v first n more from j = rowsOf f v first n more from (f .count - 1 - j) j
 
 -- the entries of slot j and the slots after it
-pub record Tabled (f : Pattern) (t : List ℕ) (first n more from j : ℕ) (N : List ℕ) : Type 0 where
-  pub next : (a : ℕ) → j ≤ a → a < f .count → (i : ℕ) → i ≤ size f n more a → Next (rowsAt f t first n more from a) (size f n more a) i (getD N (a * 20001 + i) 0)
+pub record Tabled (f : Pattern) (v : View) (first n more from j : ℕ) (N : List ℕ) : Type 0 where
+  pub next : (a : ℕ) → j ≤ a → a < f .count → (i : ℕ) → i ≤ size f n more a → Next (rowsAt f v first n more from a) (size f n more a) i (getD N (a * 20001 + i) 0)

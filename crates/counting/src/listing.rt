@@ -16,6 +16,7 @@ ghost use mathlib.Core.Path.{_≡_};
 ghost use mathlib.Core.Bool.{true};
 ghost use Prim.Native.Nat.{_+_, _-_, _*_, _≤_};
 ghost use lib.ListN.{length};
+ghost use Rattle.matching.specs.Occurrence.{plain};
 ghost use Rattle.matching.specs.Laws.Cover.{far, width};
 ghost use Rattle.matching.specs.Occurrences.{occurrences};
 ghost use Rattle.matching.specs.Written.{written};
@@ -25,11 +26,11 @@ ghost use Rattle.counting.specs.Steps.{Marked, free};
 
 // Writes all occurrences where the span limits cannot bind: by one table of the whole text.
 fn put_whole(f: Pattern, t: &[u16], marks: &[u8], reach: usize, next: &mut [u16], list: &mut [u16])
-    requires { ⌜ Input f (now t) ⌝ ∗ ⌜ Marked f (now t) (now marks) ⌝ ∗ ⌜ (free f (now t) ≡ true) × (reach ≡ far f (f .count - 1)) × (320016 ≤ length (now next)) × (length (occurrences f (now t)) * f .count ≤ length (now list)) ⌝ }
+    requires { ⌜ Input f (plain f (now t)) ⌝ ∗ ⌜ Marked f (plain f (now t)) (now marks) ⌝ ∗ ⌜ (free f (plain f (now t)) ≡ true) × (reach ≡ far f (f .count - 1)) × (320016 ≤ length (now next)) × (length (occurrences f (now t)) * f .count ≤ length (now list)) ⌝ }
     ensures { λ _. ⌜ now (list .exit) ≡ written (f .count) (occurrences f (now (t .entry))) (now (list .entry)) ⌝ }
 {
     let n = t.len();
-    reach_all(f, t, marks, 0, n, n, reach, 0, next);
+    reach_all(f, marks, 0, n, n, reach, 0, next);
     let low = lows(f);
     let high = highs(f);
     let mut row = [0u16; 16];
@@ -46,7 +47,7 @@ fn put_each(
     next: &mut [u16],
     list: &mut [u16],
 )
-    requires { ⌜ Input f (now t) ⌝ ∗ ⌜ Marked f (now t) (now marks) ⌝ ∗ ⌜ (reach ≡ far f (f .count - 1)) × (w ≡ width f) × (1 ≤ w) × (320016 ≤ length (now next)) × (length (occurrences f (now t)) * f .count ≤ length (now list)) ⌝ }
+    requires { ⌜ Input f (plain f (now t)) ⌝ ∗ ⌜ Marked f (plain f (now t)) (now marks) ⌝ ∗ ⌜ (reach ≡ far f (f .count - 1)) × (w ≡ width f) × (1 ≤ w) × (320016 ≤ length (now next)) × (length (occurrences f (now t)) * f .count ≤ length (now list)) ⌝ }
     ensures { λ _. ⌜ now (list .exit) ≡ written (f .count) (occurrences f (now (t .entry))) (now (list .entry)) ⌝ }
 {
     let n = t.len();
@@ -60,7 +61,7 @@ fn put_each(
     while i < n {
         if marks[i] == 1 {
             let k = clip(w, n - i);
-            reach_all(f, t, marks, i, k, 0, reach, i + least, next);
+            reach_all(f, marks, i, k, 0, reach, i + least, next);
             rows = walk(&low, &high, next, m, i, 0, 0, 0, &mut row, rows, list);
             i += 1;
         } else {
@@ -71,11 +72,11 @@ fn put_each(
 
 // Writes all occurrences.
 fn put_all(f: Pattern, t: &[u16], marks: &[u8], list: &mut [u16])
-    requires { ⌜ Input f (now t) ⌝ ∗ ⌜ Marked f (now t) (now marks) ⌝ ∗ ⌜ length (occurrences f (now t)) * f .count ≤ length (now list) ⌝ }
+    requires { ⌜ Input f (plain f (now t)) ⌝ ∗ ⌜ Marked f (plain f (now t)) (now marks) ⌝ ∗ ⌜ length (occurrences f (now t)) * f .count ≤ length (now list) ⌝ }
     ensures { λ _. ⌜ now (list .exit) ≡ written (f .count) (occurrences f (now (t .entry))) (now (list .entry)) ⌝ }
 {
     let mut next = [0u16; 320016];
-    let far = farthest(f, t);
+    let far = farthest(f);
     if unbound(f, t) {
         put_whole(f, t, marks, far, &mut next, list);
         return;

@@ -7,8 +7,7 @@ ghost use Prim.Native.Nat.{_+_, _-_, _<_, _≤_};
 ghost use lib.ListN.{length};
 ghost use lib.Dec.{leb, eqb};
 ghost use Rattle.matching.specs.Laws.Cover.{far};
-ghost use Rattle.counting.specs.Inputs.{Input};
-ghost use Rattle.counting.specs.Steps.{Marked};
+ghost use Rattle.counting.specs.Steps.{Window};
 ghost use Rattle.counting.specs.Tables.{ends, leads, Reached, Tabled};
 
 // Whether the mark is set and a is at most b.
@@ -90,7 +89,6 @@ fn reach_on(
 // indexes, and `more` more than can be reached from the first; `reach` is the distance that the last slot can be from it.
 pub(crate) fn reach_all(
     f: Pattern,
-    t: &[u16],
     marks: &[u8],
     first: usize,
     n: usize,
@@ -99,8 +97,8 @@ pub(crate) fn reach_all(
     from: usize,
     next: &mut [u16],
 )
-    requires { ⌜ Input f (now t) ⌝ ∗ ⌜ Marked f (now t) (now marks) ⌝ ∗ ⌜ (first + n ≤ length (now t)) × (more ≤ 20000) × (reach ≡ far f (f .count - 1)) × (320016 ≤ length (now next)) ⌝ }
-    ensures { λ _. ⌜ Tabled f (now (t .entry)) first n more from 0 (now (next .exit)) ⌝ }
+    requires { ⌜ Window f (now marks) first n ⌝ ∗ ⌜ (more ≤ 20000) × (reach ≡ far f (f .count - 1)) × (320016 ≤ length (now next)) ⌝ }
+    ensures { λ _. ⌜ ((w : Window f (now (marks .entry)) first n) → Tabled f (w .view) first n more from 0 (now (next .exit))) ⌝ }
 {
     let mut j = f.count - 1;
     let mut r = reach;

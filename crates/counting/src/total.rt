@@ -12,6 +12,7 @@ use pattern::Verdict;
 ghost use mathlib.Core.Path.{_≡_};
 ghost use Prim.Native.Nat.{_+_, _-_, _≤_, min};
 ghost use lib.ListN.{length};
+ghost use Rattle.matching.specs.Occurrence.{plain};
 ghost use Rattle.matching.specs.Laws.Cover.{near, far, width};
 ghost use Rattle.matching.specs.Occurrences.{occurrences};
 ghost use Rattle.counting.specs.Inputs.{Input};
@@ -27,13 +28,13 @@ pub enum Tallied {
 
 // All occurrences, where the span limits say nothing: one run over the text.
 fn whole(f: Pattern, t: &[u16], marks: &[u8], reach: usize) -> Wide
-    requires { ⌜ Input f (now t) ⌝ ∗ ⌜ Marked f (now t) (now marks) ⌝ ∗ ⌜ (f .least ≤ near f (f .count - 1) + 1) × (min (far f (f .count - 1) + 1) (length (now t)) ≤ f .most) × (reach ≡ far f (f .count - 1)) ⌝ }
+    requires { ⌜ Input f (plain f (now t)) ⌝ ∗ ⌜ Marked f (plain f (now t)) (now marks) ⌝ ∗ ⌜ (f .least ≤ near f (f .count - 1) + 1) × (min (far f (f .count - 1) + 1) (length (now t)) ≤ f .most) × (reach ≡ far f (f .count - 1)) ⌝ }
     ensures { λ r. ⌜ value r ≡ length (occurrences f (now (t .entry))) ⌝ }
 {
     let mut hi = [0u64; 20001];
     let mut lo = [0u64; 20001];
     let n = t.len();
-    ways(f, t, marks, 0, n, n, reach, 0, &mut hi, &mut lo);
+    ways(f, marks, 0, n, n, reach, 0, &mut hi, &mut lo);
     Wide {
         hi: hi[0],
         lo: lo[0],
@@ -42,7 +43,7 @@ fn whole(f: Pattern, t: &[u16], marks: &[u8], reach: usize) -> Wide
 
 // All occurrences of any pattern: a run for each first place, over the places that a row can span.
 fn each(f: Pattern, t: &[u16], marks: &[u8], reach: usize, w: usize) -> Wide
-    requires { ⌜ Input f (now t) ⌝ ∗ ⌜ Marked f (now t) (now marks) ⌝ ∗ ⌜ (reach ≡ far f (f .count - 1)) × (w ≡ width f) × (1 ≤ w) × (w ≤ 961) ⌝ }
+    requires { ⌜ Input f (plain f (now t)) ⌝ ∗ ⌜ Marked f (plain f (now t)) (now marks) ⌝ ∗ ⌜ (reach ≡ far f (f .count - 1)) × (w ≡ width f) × (1 ≤ w) × (w ≤ 961) ⌝ }
     ensures { λ r. ⌜ value r ≡ length (occurrences f (now (t .entry))) ⌝ }
 {
     let mut hi = [0u64; 1000];
@@ -54,7 +55,7 @@ fn each(f: Pattern, t: &[u16], marks: &[u8], reach: usize, w: usize) -> Wide
     while i < n {
         if marks[i] == 1 {
             let m = clip(w, n - i);
-            ways(f, t, marks, i, m, 0, reach, i + least, &mut hi, &mut lo);
+            ways(f, marks, i, m, 0, reach, i + least, &mut hi, &mut lo);
             let x = Wide {
                 hi: hi[0],
                 lo: lo[0],
@@ -70,10 +71,10 @@ fn each(f: Pattern, t: &[u16], marks: &[u8], reach: usize, w: usize) -> Wide
 
 // The number of all occurrences.
 pub(crate) fn count(f: Pattern, t: &[u16], marks: &[u8]) -> Wide
-    requires { ⌜ Input f (now t) ⌝ ∗ ⌜ Marked f (now t) (now marks) ⌝ }
+    requires { ⌜ Input f (plain f (now t)) ⌝ ∗ ⌜ Marked f (plain f (now t)) (now marks) ⌝ }
     ensures { λ r. ⌜ value r ≡ length (occurrences f (now (t .entry))) ⌝ }
 {
-    let far = farthest(f, t);
+    let far = farthest(f);
     if unbound(f, t) {
         return whole(f, t, marks, far);
     }

@@ -11,8 +11,7 @@ ghost use lib.ListN.{length};
 ghost use lib.Dec.{leb, eqb};
 ghost use Rattle.matching.specs.Laws.Branches.{when};
 ghost use Rattle.matching.specs.Laws.Cover.{far};
-ghost use Rattle.counting.specs.Inputs.{Input};
-ghost use Rattle.counting.specs.Steps.{Marked, Room, Ended, Falling, Spread, Summable, Summed, Holds};
+ghost use Rattle.counting.specs.Steps.{Window, Room, Ended, Falling, Spread, Summable, Summed, Holds};
 
 // Whether the last slot may stand at the place, as a number.
 fn ending(mark: u8, from: usize, p: usize) -> u64
@@ -120,7 +119,6 @@ fn sums(n: usize, hi: &mut [u64], lo: &mut [u64])
 // most n places, and `more` more than can be reached from the first; `reach` is the distance that the last slot can be from it.
 pub(crate) fn ways(
     f: Pattern,
-    t: &[u16],
     marks: &[u8],
     first: usize,
     n: usize,
@@ -130,8 +128,8 @@ pub(crate) fn ways(
     hi: &mut [u64],
     lo: &mut [u64],
 )
-    requires { ⌜ Input f (now t) ⌝ ∗ ⌜ Marked f (now t) (now marks) ⌝ ∗ ⌜ Room n (now hi) (now lo) ⌝ ∗ ⌜ (first + n ≤ length (now t)) × (more ≤ 20000) × (reach ≡ far f (f .count - 1)) ⌝ }
-    ensures { λ _. ⌜ Holds f (now (t .entry)) first n more from (f .count - 1) 0 (now (hi .exit)) (now (lo .exit)) ⌝ }
+    requires { ⌜ Window f (now marks) first n ⌝ ∗ ⌜ Room n (now hi) (now lo) ⌝ ∗ ⌜ (more ≤ 20000) × (reach ≡ far f (f .count - 1)) ⌝ }
+    ensures { λ _. ⌜ ((w : Window f (now (marks .entry)) first n) → Holds f (w .view) first n more from (f .count - 1) 0 (now (hi .exit)) (now (lo .exit))) ⌝ }
 {
     let mut j = f.count - 1;
     let mut r = reach;

@@ -11,6 +11,7 @@ use Rattle.pattern.specs.declared.Pattern.{Pattern}
 use Rattle.pattern.specs.declared.refusal.Verdict.the-variants.{Accepted}
 use Rattle.pattern.specs.Tests.{inputVerdict}
 use Rattle.pattern.specs.Laws.Accepting.{input-accepted}
+use Rattle.matching.specs.Occurrence.{plain}
 use Rattle.matching.specs.Searches.{earliest}
 use Rattle.matching.specs.Answers.{rowVerdict, searched, firstAfter}
 use Rattle.matching.specs.Laws.Extremes.{earliest-some}
@@ -60,5 +61,5 @@ given f t marks s client {left} {after} {r} slots found a l = go (earliest f t m
         rw (l, e, q)
     go (some row) e =
         let q : r ≡ searched (some row) = found ∙ ap searched e in
-        let size : length row ≡ f .count = earliest-some f t slots marks row .0 e .hit .size in
+        let size : length row ≡ f .count = earliest-some f (plain f t) slots marks row .0 e .hit .size in
         rw (l, a, e, q, first-sixteen row size)

@@ -7,9 +7,9 @@ use mathlib.Core.Path.{_≡_}
 use lib.ListN.{length}
 use borrow.Author.Count.{below-more}
 use Rattle.pattern.specs.declared.Pattern.{Pattern}
-use Rattle.pattern.specs.Patterns.{takes, slotAt}
+use Rattle.pattern.specs.Patterns.{slotAt}
 use Rattle.pattern.specs.Laws.Accepting.{is-false}
-use Rattle.matching.specs.Occurrence.{at}
+use Rattle.matching.specs.Occurrence.{plain, at}
 use Rattle.matching.specs.Occurrences.{occurs}
 use Rattle.hits.specs.Steps.{Decides, PlaceFits, GapFits, SpanFits, WordsFit, GapsFit}
 use Rattle.matching.specs.Laws.Tests.{occurs-iff}
@@ -22,30 +22,28 @@ decides-false n = record { yes = λ e. absurd (false≢true e); no = λ _ p. n p
 
 module _ (f : Pattern) (t r : List ℕ) where
   pub no-words : (WordsFit f t r → ⊥) → occurs f t r ≡ false
-  unfolding takes
-  no-words n = is-false (occurs f t r) (λ e. let o = occurs-iff f t r .0 e in
-      n (λ j h. record { low = o .inside j h .0; high = o .inside j h .1; word = o .word j h }))
+  no-words n = is-false (occurs f t r) (λ e. let o = occurs-iff f (plain f t) r .0 e in
+      n (λ j h. record { low = o .inside j h .0; high = o .inside j h .1; word = o .fit j h }))
 
   pub no-gaps : (GapsFit f r → ⊥) → occurs f t r ≡ false
-  no-gaps n = is-false (occurs f t r) (λ e. let o = occurs-iff f t r .0 e in
+  no-gaps n = is-false (occurs f t r) (λ e. let o = occurs-iff f (plain f t) r .0 e in
       n (λ j h k. let z : j - 1 + 1 ≡ j = omega arith in let g = rw z at (o .gap (j - 1) (omega arith)) in record { least = g .0; most = g .1 }))
 
   pub no-span : (SpanFits (at r 0) (at r (f .count - 1)) (f .least) (f .most) → ⊥) → occurs f t r ≡ false
-  no-span n = is-false (occurs f t r) (λ e. let o = occurs-iff f t r .0 e in n (record { low = o .span .0; high = o .span .1 }))
+  no-span n = is-false (occurs f t r) (λ e. let o = occurs-iff f (plain f t) r .0 e in n (record { low = o .span .0; high = o .span .1 }))
 
   pub all-fit : length r ≡ f .count → WordsFit f t r → GapsFit f r → SpanFits (at r 0) (at r (f .count - 1)) (f .least) (f .most) → occurs f t r ≡ true
-  unfolding takes
-  all-fit size words gaps span = occurs-iff f t r .1 (record {
+  all-fit size words gaps span = occurs-iff f (plain f t) r .1 (record {
     size = size;
     inside = λ j h. (words j h .low, words j h .high);
-    word = λ j h. words j h .word;
+    fit = λ j h. words j h .word;
     gap = λ j h. let g = gaps (j + 1) h (omega arith) in let z : j + 1 - 1 ≡ j = omega arith in (rw z at (g .least), rw z at (g .most));
     span = (span .low, span .high);
   })
 
 -- one slot more passes, or does not
-pub words-more : (f : Pattern) (t r : List ℕ) (j : ℕ) {p : ℕ} → p ≡ at r j → ((k : ℕ) → k < j → PlaceFits (slotAt f k .words) (slotAt f k .count) t (at r k))
-    → PlaceFits (slotAt f j .words) (slotAt f j .count) t p → (k : ℕ) → k < j + 1 → PlaceFits (slotAt f k .words) (slotAt f k .count) t (at r k)
+pub words-more : (f : Pattern) (t r : List ℕ) (j : ℕ) {p : ℕ} → p ≡ at r j → ((k : ℕ) → k < j → PlaceFits (slotAt f k) t (at r k))
+    → PlaceFits (slotAt f j) t p → (k : ℕ) → k < j + 1 → PlaceFits (slotAt f k) t (at r k)
 words-more f t r j e before here = below-more _ j before (rw e at here)
 
 pub gaps-more : (f : Pattern) (r : List ℕ) (j : ℕ) {a b low high : ℕ} → a ≡ at r (j - 1) → b ≡ at r j → low ≡ slotAt f j .low → high ≡ slotAt f j .high

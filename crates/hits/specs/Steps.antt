@@ -3,21 +3,22 @@ use Prim.Native.Nat.{ℕ, _+_, _-_, _≤_, _<_}
 use mathlib.Core.Bool.{Bool, true, false}
 use mathlib.Core.List.{List}
 use mathlib.Core.Path.{_≡_}
-use lib.ListN.{length, take}
+use lib.ListN.{length}
+use Rattle.pattern.specs.declared.slot.Slot.{Slot}
 use Rattle.pattern.specs.declared.Pattern.{Pattern}
-use Rattle.pattern.specs.Patterns.{member, slotAt}
-use Rattle.matching.specs.Occurrence.{at, wordAt}
+use Rattle.pattern.specs.Patterns.{slotAt}
+use Rattle.matching.specs.Occurrence.{at, takesAt}
 
 -- the test says whether P holds
 pub record Decides (b : Bool) (P : Type 0) : Type 0 where
   pub yes : b ≡ true → P
   pub no : b ≡ false → P → ⊥
 
--- the place is in the text, and its word one of the first n
-pub record PlaceFits (ws : List ℕ) (n : ℕ) (t : List ℕ) (p : ℕ) : Type 0 where
+-- the place is in the text, and its word one that the slot takes
+pub record PlaceFits (s : Slot) (t : List ℕ) (p : ℕ) : Type 0 where
   pub low : 1 ≤ p
   pub high : p ≤ length t
-  pub word : member (wordAt t p) (take n ws) ≡ true
+  pub word : takesAt s t p ≡ true
 
 pub record GapFits (a b low high : ℕ) : Type 0 where
   pub least : a + low + 1 ≤ b
@@ -28,7 +29,7 @@ pub record SpanFits (first last least most : ℕ) : Type 0 where
   pub high : last + 1 ≤ first + most
 
 abbrev pub WordsFit : Pattern → List ℕ → List ℕ → Type 0
-WordsFit f t r = (j : ℕ) → j < f .count → PlaceFits (slotAt f j .words) (slotAt f j .count) t (at r j)
+WordsFit f t r = (j : ℕ) → j < f .count → PlaceFits (slotAt f j) t (at r j)
 
 -- the gap before each slot but the first
 abbrev pub GapsFit : Pattern → List ℕ → Type 0

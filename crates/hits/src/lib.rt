@@ -2,6 +2,7 @@
 use matching::row_verdict;
 use pattern::Pattern;
 use pattern::Refusal;
+use pattern::Slot;
 use pattern::Verdict;
 ghost use mathlib.Core.Path.{_≡_};
 ghost use Prim.Native.Nat.{_+_, _*_, _≤_, _<_};
@@ -23,9 +24,9 @@ fn wide(x: u16) -> usize
     x as usize
 }
 
-// Whether the place is in the text, and its word among the first `count`.
-fn place_fits(words: [u16; 8], count: usize, text: &[u16], place: usize) -> bool
-    ensures { λ r. ⌜ Decides r (PlaceFits words count (now (text .entry)) place) ⌝ }
+// Whether the place is in the text, and its word one that the slot takes.
+fn place_fits(slot: Slot, text: &[u16], place: usize) -> bool
+    ensures { λ r. ⌜ Decides r (PlaceFits slot (now (text .entry)) place) ⌝ }
 {
     if place == 0 {
         return false;
@@ -34,10 +35,10 @@ fn place_fits(words: [u16; 8], count: usize, text: &[u16], place: usize) -> bool
         return false;
     }
     let i = place - 1;
-    pattern::lists(&words, count, text[i])
+    slot.takes(text[i])
 }
 
-// Whether each place of the row is in the text and its word in the slot.
+// Whether each place of the row is in the text and fits its slot.
 fn words_fit(pattern: Pattern, text: &[u16], row: &[u16]) -> bool
     requires { ⌜ (pattern .count ≤ 16) × (length (now row) ≡ pattern .count) ⌝ }
     ensures { λ r. ⌜ Decides r (WordsFit pattern (now (text .entry)) (now (row .entry))) ⌝ }
@@ -46,8 +47,7 @@ fn words_fit(pattern: Pattern, text: &[u16], row: &[u16]) -> bool
     let mut j = 0;
     while j < m {
         let s = pattern.slots[j];
-        let w = s.words;
-        let fits = place_fits(w, s.count, text, wide(row[j]));
+        let fits = place_fits(s, text, wide(row[j]));
         if !fits {
             return false;
         }

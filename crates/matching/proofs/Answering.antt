@@ -2,7 +2,7 @@
 use Prim.Native.Nat.{ℕ, _+_, _-_, _≤_, _<_}
 use native.Mathlib.Omega.{arith}
 use native.Mathlib.Decide.{decLt}
-use mathlib.Core.List.{List, reverse}
+use mathlib.Core.List.{List}
 use mathlib.Core.Bool.{Bool, true, false, true≢false}
 use mathlib.Core.Option.{Option, none, some}
 use mathlib.Core.Path.{_≡_, refl, sym, ap, _∙_}
@@ -11,14 +11,13 @@ use lib.Seq.{getD-take, length-take-le, ext-getD, getD-append-add}
 use Rattle.pattern.specs.declared.Pattern.{Pattern}
 use Rattle.pattern.specs.Laws.Arrays.{zeros-at, at-past}
 use Rattle.matching.specs.declared.search.Answer.{Answer}
-use Rattle.matching.specs.Occurrence.{at}
+use Rattle.matching.specs.Occurrence.{View, plain, at}
 use Rattle.matching.specs.Searches.{earliest, latest}
 use Rattle.matching.specs.Answers.{sixteen, searched, shownAnswer}
 use Rattle.matching.specs.Steps.Settling.{Ready, Reported, Answered, AnsweredBack, Copied, Spare}
-use Rattle.matching.specs.Steps.Turning.{flip, Turned, Flipped}
+use Rattle.matching.specs.Steps.Turning.{flip, Flipped}
 use Rattle.matching.specs.Laws.Extremes.{earliest-some, earliest-none, latest-some, latest-none, earliest-same, latest-same}
-use Rattle.matching.specs.Laws.Mirror.{length-flip, Opposite, flip-opposite, nearest-back, none-back}
-use Rattle.matching.specs.Laws.Turning.{turned-facing}
+use Rattle.matching.specs.Laws.Mirror.{length-flip, Opposite, flip-opposite, Facing, nearest-back, none-back}
 use Rattle.matching.specs.Laws.Ready.{ready, RowAccepted}
 
 -- ---- the marks as a row
@@ -45,29 +44,29 @@ same-row {m} {n} {row} {near} e few N =
     let q : i + j + 1 ≡ m = omega arith in
     omega (arith, getD-take m near j 0 (omega arith), N .turn i j q, flip-opposite n r .turn i j (omega arith), getD-take m row i 0 (omega arith)))
 
-module _ {f g : Pattern} (T : Turned f g) {t : List ℕ} (ok : Ready f t) {marks far : List ℕ} (M : Flipped (f .count) (length t) marks far) {a : Answer} (A : Answered g (reverse t) far a) where
-  opposite : Opposite (f .count) (length t) marks far
+module _ {f g : Pattern} {v u : View} (F : Facing f v g u) (ok : Ready f (v .places)) {marks far : List ℕ} (M : Flipped (f .count) (v .places) marks far) {a : Answer} (A : Answered g u far a) where
+  opposite : Opposite (f .count) (v .places) marks far
   opposite = record { turn = M .turn }
 
-  pub back-found : a .found ≡ true → {near : List ℕ} → Flipped (f .count) (length t) (a .places) near → AnsweredBack f t marks (record { found = true; places = near })
+  pub back-found : a .found ≡ true → {near : List ℕ} → Flipped (f .count) (v .places) (a .places) near → AnsweredBack f v marks (record { found = true; places = near })
   back-found e {near} N =
-      let q : take (f .count) near ≡ flip (length t) (take (g .count) (a .places)) =
-      same-row (A .size e) (ok .few) N ∙ ap (λ (k : ℕ). flip (length t) (take k (a .places))) (sym (T .count)) in
+      let q : take (f .count) near ≡ flip (v .places) (take (g .count) (a .places)) =
+      same-row (A .size e) (ok .few) N ∙ ap (λ (k : ℕ). flip (v .places) (take k (a .places))) (sym (F .count)) in
       record {
-        some = λ _. rw q (nearest-back (turned-facing T t) (ok .some) opposite (A .some e));
+        some = λ _. rw q (nearest-back F (ok .some) opposite (A .some e));
         size = λ _. N .size;
         rest = λ _. N .rest;
         none = λ h. absurd (true≢false h);
       }
 
-  pub back-none : a .found ≡ false → AnsweredBack f t marks a
+  pub back-none : a .found ≡ false → AnsweredBack f v marks a
   back-none e =
       let no-such : a .found ≡ true → ⊥ = λ h. true≢false (sym h ∙ e) in
       record {
         some = λ h. absurd (no-such h);
         size = λ h. absurd (no-such h);
         rest = λ h. absurd (no-such h);
-        none = λ _. none-back (turned-facing T t) (ok .some) opposite (A .none e);
+        none = λ _. none-back F (ok .some) opposite (A .none e);
       }
 
 -- ---- the answer as an equation
@@ -103,14 +102,14 @@ module _ {m : ℕ} {Nearest : List ℕ → Type 0} {None : Type 0} {a : Answer} 
 -- ---- the two searches
 
 module _ {f : Pattern} {t marks : List ℕ} (ok : RowAccepted f t marks) {row : List ℕ} (C : Copied marks row) {a : Answer} where
-  pub first-shown : Answered f t row a → shownAnswer a ≡ searched (earliest f t marks)
+  pub first-shown : Answered f (plain f t) row a → shownAnswer a ≡ searched (earliest f t marks)
   first-shown A =
       let r = ok .ready in
-      shown-is A (r .few) (λ q n. earliest-some f t (r .some) row q .1 n) (λ n. earliest-none f t (r .some) row .1 n)
-      ∙ ap searched (earliest-same f t (r .some) row marks (λ j h. C .same j))
+      shown-is A (r .few) (λ q n. earliest-some f (plain f t) (r .some) row q .1 n) (λ n. earliest-none f (plain f t) (r .some) row .1 n)
+      ∙ ap searched (earliest-same f (plain f t) (r .some) row marks (λ j h. C .same j))
 
-  pub last-shown : AnsweredBack f t row a → shownAnswer a ≡ searched (latest f t marks)
+  pub last-shown : AnsweredBack f (plain f t) row a → shownAnswer a ≡ searched (latest f t marks)
   last-shown A =
       let r = ok .ready in
-      shown-is A (r .few) (λ q n. latest-some f t (r .some) row q .1 n) (λ n. latest-none f t (r .some) row .1 n)
-      ∙ ap searched (latest-same f t (r .some) row marks (λ j h. C .same j))
+      shown-is A (r .few) (λ q n. latest-some f (plain f t) (r .some) row q .1 n) (λ n. latest-none f (plain f t) (r .some) row .1 n)
+      ∙ ap searched (latest-same f (plain f t) (r .some) row marks (λ j h. C .same j))

@@ -14,11 +14,12 @@ use Rattle.pattern.specs.declared.refusal.Verdict.the-variants.{Accepted}
 use Rattle.pattern.specs.Laws.Accepting.{input-accepted}
 use Rattle.matching.specs.declared.rows.Listed.the-variants.{Rows, Refused}
 use Rattle.matching.specs.Collections.{Every}
-use Rattle.matching.specs.Lists.{leftmost}
+use Rattle.matching.specs.Occurrence.{View, plain}
+use Rattle.matching.specs.Lists.{leftmost, leftmostIn}
 use Rattle.matching.specs.Written.{flat, written}
 use Rattle.matching.specs.Answers.{listed, filled, Best}
 use Rattle.matching.specs.Steps.Settling.{Ready}
-use Rattle.matching.specs.Steps.Turning.{seen, flip}
+use Rattle.matching.specs.Steps.Turning.{viewed, flip}
 use Rattle.matching.specs.Steps.Listing.{Faces, shownRows, stored}
 use Rattle.matching.specs.Laws.Collections.{every-map}
 use Rattle.matching.specs.Laws.Direction.{forwards}
@@ -26,7 +27,7 @@ use Rattle.matching.specs.Laws.Bounding.{greedy-hits}
 use Rattle.matching.specs.Laws.Extremes.{leftmost-front, back-unique}
 use Rattle.matching.specs.Laws.Largest.{largest}
 use Rattle.matching.specs.Laws.Lengths.{leftmost-length}
-use Rattle.matching.specs.Laws.Mirror.{length-seen, front-back-list}
+use Rattle.matching.specs.Laws.Mirror.{front-back-list}
 use Rattle.matching.specs.Laws.Turning.{turned-facing, turned-ready}
 use Rattle.matching.proofs.Writing.{length-flat}
 use Rattle.matching.proofs.Reversing.{flat-reversed}
@@ -34,21 +35,21 @@ use Rattle.matching.proofs.Reversing.{flat-reversed}
 -- ---- room
 
 -- a list with an entry for each word and slot has room for them
-pub room-always : (g : Pattern) (b : Bool) (t : List ℕ) {m size : ℕ} → g .count ≡ m → length t * m ≤ size → length (leftmost g (seen b t)) * g .count ≤ size
+pub room-always : (g : Pattern) (b : Bool) (t : List ℕ) {m size : ℕ} → g .count ≡ m → length t * m ≤ size → length (leftmostIn g (viewed b g t)) * g .count ≤ size
 room-always g b t {m} e h =
-    let k = mul-le-mul-right {m = length (leftmost g (seen b t))} {n = length t} m (omega (arith, leftmost-length g (seen b t), length-seen b t)) in
-    omega (arith, ap (λ (x : ℕ). length (leftmost g (seen b t)) * x) e)
+    let k = mul-le-mul-right {m = length (leftmostIn g (viewed b g t))} {n = length t} m (omega (arith, leftmost-length g (viewed b g t))) in
+    omega (arith, ap (λ (x : ℕ). length (leftmostIn g (viewed b g t)) * x) e)
 
 -- ---- the rows turned round
 
-sizes : (g : Pattern) (u : List ℕ) → 1 ≤ g .count → Every (λ r. length r ≡ g .count) (leftmost g u)
+sizes : (g : Pattern) (u : View) → 1 ≤ g .count → Every (λ r. length r ≡ g .count) (leftmostIn g u)
 sizes g u some = every-map (λ r o. o .size) (greedy-hits (forwards (g .count)) (leftmost-front g u some))
 
-pub turned-written : (g : Pattern) (u : List ℕ) → 1 ≤ g .count → (n rows : ℕ) (l₀ : List ℕ) {l l′ : List ℕ} → rows ≡ length (leftmost g u) → l ≡ written (g .count) (leftmost g u) l₀
-    → l′ ≡ flip n (take (rows * g .count) l) ++ drop (rows * g .count) l → l′ ≡ written (g .count) (reverse (map (flip n) (leftmost g u))) l₀
+pub turned-written : (g : Pattern) (u : View) → 1 ≤ g .count → (n rows : ℕ) (l₀ : List ℕ) {l l′ : List ℕ} → rows ≡ length (leftmostIn g u) → l ≡ written (g .count) (leftmostIn g u) l₀
+    → l′ ≡ flip n (take (rows * g .count) l) ++ drop (rows * g .count) l → l′ ≡ written (g .count) (reverse (map (flip n) (leftmostIn g u))) l₀
 turned-written g u some n rows l₀ {l} {l′} r q e =
     let m = g .count in
-    let F = leftmost g u in
+    let F = leftmostIn g u in
     let D = drop (length F * m) l₀ in
     let s : length (flat F) ≡ rows * m = length-flat m (sizes g u some) ∙ ap (λ (x : ℕ). x * m) (sym r) in
     let a : take (rows * m) l ≡ flat F = ap (take (rows * m)) q ∙ take-at (flat F) D (rows * m) s in
@@ -67,15 +68,15 @@ stored-on b e n R = rw e
 
 -- ---- what was found is the front list or the back list
 
-module _ {f g : Pattern} {t : List ℕ} (ok : Ready f t) where
-  pub faces-ready : (b : Bool) → Faces b f g → Ready g (seen b t)
-  faces-ready true F = turned-ready (F .back refl) ok
-  faces-ready false F = rw (F .on refl) ok
+pub faces-ready : {f g : Pattern} {n : ℕ} → Ready f n → (b : Bool) → Faces b f g → Ready g n
+faces-ready ok true F = turned-ready (F .back refl) ok
+faces-ready ok false F = rw (F .on refl) ok
 
-  pub faces-list : (b : Bool) → Faces b f g → shownRows b (length t) (leftmost g (seen b t)) ≡ stored b f t
+module _ {f g : Pattern} (t : List ℕ) (ok : Ready f (length t)) where
+  faces-list : (b : Bool) → Faces b f g → shownRows b (length t) (leftmostIn g (viewed b g t)) ≡ stored b f t
   faces-list true F =
       let T = F .back refl in
-      back-unique f t (ok .some) (front-back-list (turned-facing T t) (ok .some) (ok .short) (leftmost-front g (reverse t) (omega (arith, T .count, ok .some))))
+      back-unique f (plain f t) (ok .some) (front-back-list (turned-facing T t) (ok .some) (ok .short) (leftmost-front g (viewed true g t) (omega (arith, T .count, ok .some))))
   faces-list false F = ap (λ (x : Pattern). leftmost x t) (F .on refl)
 
 length-shown : (b : Bool) (n : ℕ) (R : List (List ℕ)) → length (shownRows b n R) ≡ length R
@@ -84,15 +85,15 @@ length-shown false n R = refl
 
 -- ---- the answer and the content, once the tests are passed
 
-module _ (b : Bool) {f g : Pattern} {t : List ℕ} (l : List ℕ) (ok : Ready f t) (F : Faces b f g) where
+module _ (b : Bool) {f g : Pattern} (t l : List ℕ) (ok : Ready f (length t)) (F : Faces b f g) where
   abbrev N : ℕ
   N = length (stored b f t)
 
   abbrev found : ℕ
-  found = length (leftmost g (seen b t))
+  found = length (leftmostIn g (viewed b g t))
 
   found-is : found ≡ N
-  found-is = sym (length-shown b (length t) (leftmost g (seen b t))) ∙ ap length (faces-list ok b F)
+  found-is = sym (length-shown b (length t) (leftmostIn g (viewed b g t))) ∙ ap length (faces-list t ok b F)
 
   product : {rows : ℕ} → rows ≡ found → rows * f .count ≡ N * f .count
   product e = ap (λ (x : ℕ). x * f .count) (e ∙ found-is)
@@ -110,10 +111,10 @@ module _ (b : Bool) {f g : Pattern} {t : List ℕ} (l : List ℕ) (ok : Ready f 
     pub listed-done : Rows found ≡ listed Accepted (f .count) (stored b f t) (length l)
     listed-done = rw (le-ltb (length l) (N * f .count) fits, found-is)
 
-    pub filled-done : {l′ : List ℕ} → l′ ≡ written (g .count) (shownRows b (length t) (leftmost g (seen b t))) l → l′ ≡ filled Accepted (f .count) (stored b f t) l
+    pub filled-done : {l′ : List ℕ} → l′ ≡ written (g .count) (shownRows b (length t) (leftmostIn g (viewed b g t))) l → l′ ≡ filled Accepted (f .count) (stored b f t) l
     filled-done q =
         rw (le-ltb (length l) (N * f .count) fits)
-        (q ∙ ap (λ (x : ℕ). written x (shownRows b (length t) (leftmost g (seen b t))) l) (F .count) ∙ ap (λ (R : List (List ℕ)). written (f .count) R l) (faces-list ok b F))
+        (q ∙ ap (λ (x : ℕ). written x (shownRows b (length t) (leftmostIn g (viewed b g t))) l) (F .count) ∙ ap (λ (R : List (List ℕ)). written (f .count) R l) (faces-list t ok b F))
 
 -- ---- demand 3
 

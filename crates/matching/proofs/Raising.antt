@@ -8,8 +8,8 @@ use native.Mathlib.Omega.{arith}
 use lib.ListN.{length, set, length-set}
 use lib.Seq.{getD-set-same, getD-set-other}
 use Rattle.pattern.specs.declared.Pattern.{Pattern}
-use Rattle.pattern.specs.Patterns.{takes, slotAt}
-use Rattle.matching.specs.Occurrence.{Occurs, at}
+use Rattle.pattern.specs.Patterns.{slotAt}
+use Rattle.matching.specs.Occurrence.{View, OccursIn, at}
 use Rattle.matching.specs.Rows.{NotAfter}
 use Rattle.matching.specs.Steps.Bounds.{First, Least, Between, Prior, Next}
 use Rattle.matching.specs.Steps.Settling.{Ready, Bound, Visited, Placed, Never, slack, Rising, Stable}
@@ -35,12 +35,11 @@ unbounded P N z B =
       ahead = record { before = λ h. rw (N .on h) (B .before h); ends = λ h. rw (N .round h) (B .ends h) };
     }
 
--- the least place that the slots allow, and then the first that the text allows
-pub visited : {f : Pattern} {t p : List ℕ} {j i k own x y low high least most n r : ℕ} → Prior (f .count) j i → Next (f .count) j k
+-- the least place that the slots allow, and then the first that the slot fits
+pub visited : {f : Pattern} {v : View} {p : List ℕ} {j i k own x y low high least most n r : ℕ} → Prior (f .count) j i → Next (f .count) j k
     → own ≡ at p j → x ≡ at p i → y ≡ at p k → low ≡ slotAt f j .low → high ≡ slotAt f k .high → least ≡ f .least → most ≡ f .most
-    → Least (Between j (f .count) own x y low high least most) n → First (slotAt f j .words) (slotAt f j .count) t n r → Visited f t p j r
-unfolding takes
-visited {f} {t} {p} {j} {i} {k} {n = n} {r = r} P Q e1 e2 e3 e4 e5 e6 e7 N₀ F =
+    → Least (Between j (f .count) own x y low high least most) n → First (v .fits j) (v .places) n r → Visited f v p j r
+visited {f} {v} {p} {j} {i} {k} {n = n} {r = r} P Q e1 e2 e3 e4 e5 e6 e7 N₀ F =
     let N : Least (Between j (f .count) (at p j) (at p i) (at p k) (slotAt f j .low) (slotAt f k .high) (f .least) (f .most)) n = rw (e1, e2, e3, e4, e5, e6, e7) at N₀ in
     let b = bounded {f = f} {p = p} P Q n (N .holds) in
     record {
@@ -50,7 +49,7 @@ visited {f} {t} {p} {j} {i} {k} {n = n} {r = r} P Q e1 e2 e3 e4 e5 e6 e7 N₀ F 
     }
 
 -- what an occurrence after the row allows
-pub allowed : {f : Pattern} {t q : List ℕ} → Occurs f t q → (p : List ℕ) (j : ℕ) → j < f .count → NotAfter (f .count) p q → Bound f p j (at q j)
+pub allowed : {f : Pattern} {v : View} {q : List ℕ} → OccursIn f v q → (p : List ℕ) (j : ℕ) → j < f .count → NotAfter (f .count) p q → Bound f p j (at q j)
 unfolding NotAfter
 allowed {f = f} O p j l B =
     record {
@@ -61,8 +60,8 @@ allowed {f = f} O p j l B =
       starts = λ h. rw h (omega (arith, O .span, B (f .count - 1) (omega arith)));
     }
 
-pub stable : {f : Pattern} {t p : List ℕ} {j r : ℕ} → Visited f t p j r → r ≡ at p j → r ≤ length t → Stable f t p j
-stable W e l = record { bound = rw e at (W .bound); inside = omega arith; word = rw e at (W .hit l) }
+pub stable : {f : Pattern} {v : View} {p : List ℕ} {j r : ℕ} → Visited f v p j r → r ≡ at p j → r ≤ v .places → Stable f v p j
+stable W e l = record { bound = rw e at (W .bound); inside = omega arith; fit = rw e at (W .hit l) }
 
 -- a store of what has C keeps C at every index
 pub set-all : (C : ℕ → ℕ → Type 0) (m : ℕ) (p : List ℕ) (j v : ℕ) → j < length p → ((k : ℕ) → k < m → C k (at p k)) → C j v → (k : ℕ) → k < m → C k (at (set p j v) k)
@@ -78,23 +77,23 @@ slack-set [] j v h a b = absurd (not-suc-le-zero h)
 slack-set (x ∷ xs) zero v h a b = omega arith
 slack-set (x ∷ xs) (suc j) v h a b = omega (arith, slack-set xs j v (le-of-suc-le-suc h) a b)
 
-module _ {f : Pattern} {t : List ℕ} where
-  pub rising-same : (p : List ℕ) → length p ≡ 16 → Rising f t p p
+module _ {f : Pattern} {v : View} where
+  pub rising-same : (p : List ℕ) → length p ≡ 16 → Rising f v p p
   unfolding NotAfter
   rising-same p e = record { size = e; above = λ k _. omega arith; rest = λ k _. refl; sound = λ q _ B. B }
 
-  pub placed : {p q : List ℕ} → Rising f t p q → Placed (f .count) p → Placed (f .count) q
+  pub placed : {p q : List ℕ} → Rising f v p q → Placed (f .count) p → Placed (f .count) q
   unfolding NotAfter
   placed A P k h = omega (arith, A .above k h, P k h)
 
-  module _ {p₀ p : List ℕ} {j r : ℕ} (S : Rising f t p₀ p) (W : Visited f t p j r) (l : j < f .count) where
-    pub beyond : (q : List ℕ) → Occurs f t q → NotAfter (f .count) p₀ q → r ≤ at q j
-    beyond q O B = W .least (at q j) (allowed O p j l (S .sound q O B)) (O .word j l)
+  module _ {p₀ p : List ℕ} {j r : ℕ} (S : Rising f v p₀ p) (W : Visited f v p j r) (l : j < f .count) where
+    pub beyond : (q : List ℕ) → OccursIn f v q → NotAfter (f .count) p₀ q → r ≤ at q j
+    beyond q O B = W .least (at q j) (allowed O p j l (S .sound q O B)) (O .fit j l)
 
-    pub none : length t < r → Never f t p₀
+    pub none : v .places < r → Never f v p₀
     none h q O B = omega (arith, beyond q O B, O .inside j l)
 
-    pub raised : f .count ≤ 16 → Rising f t p₀ (set p j r)
+    pub raised : f .count ≤ 16 → Rising f v p₀ (set p j r)
     unfolding NotAfter
     raised few =
         let z : j < length p = omega (arith, S .size) in
@@ -106,7 +105,7 @@ module _ {f : Pattern} {t : List ℕ} where
         }
 
     -- a place that is raised leaves less to raise
-    pub less : Ready f t → r ≤ length t → (r ≡ at p j → ⊥) → slack (set p j r) < slack p
+    pub less : Ready f (v .places) → r ≤ v .places → (r ≡ at p j → ⊥) → slack (set p j r) < slack p
     less ok h n =
         let z : j < length p = omega (arith, S .size, ok .few) in
         let up : at p j < r = omega (arith, W .bound .own) in

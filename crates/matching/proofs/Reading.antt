@@ -4,19 +4,21 @@ use native.Mathlib.Omega.{arith}
 use mathlib.Core.List.{List}
 use mathlib.Core.Bool.{Bool, true, false, true≢false, false≢true}
 use mathlib.Core.Path.{_≡_, refl, sym, ap, _∙_}
-use lib.ListN.{length, getD, take}
+use lib.ListN.{length, getD}
 use borrow.Author.Count.{below-more}
-use Rattle.pattern.specs.Patterns.{member}
-use Rattle.matching.specs.Occurrence.{wordAt}
+use Rattle.pattern.specs.declared.slot.Slot.{Slot}
+use Rattle.pattern.specs.Patterns.{takes}
+use Rattle.matching.specs.Occurrence.{wordAt, takesAt}
 use Rattle.matching.specs.Steps.Turning.{seen}
 use Rattle.matching.specs.Laws.Collections.{getD-reverse}
 
--- one more place whose word is taken, or is not: w is the word, and r whether it is taken
-pub told : (ws : List ℕ) (n : ℕ) {v w : ℕ} {r : Bool} → w ≡ v → r ≡ member w (take n ws) → r ≡ true → member v (take n ws) ≡ true
-told ws n e f g = ap (λ (x : ℕ). member x (take n ws)) (sym e) ∙ sym f ∙ g
+-- one more place whose word the slot takes, or does not: w is the word, and r whether it is taken
+pub told : (s : Slot) {v w : ℕ} {r : Bool} → w ≡ v → r ≡ takes s w → r ≡ true → takes s v ≡ true
+told s e f g = ap (takes s) (sym e) ∙ sym f ∙ g
 
-pub first-more : (ws : List ℕ) (n : ℕ) (t : List ℕ) (from p : ℕ) {w : ℕ} {r : Bool} → w ≡ wordAt t p → r ≡ member w (take n ws) → r ≡ false → ((k : ℕ) → k < p → from ≤ k → member (wordAt t k) (take n ws) ≡ true → ⊥) → (k : ℕ) → k < p + 1 → from ≤ k → member (wordAt t k) (take n ws) ≡ true → ⊥
-first-more ws n t from p d e l h = below-more _ p h (λ _ g. true≢false (sym g ∙ ap (λ (x : ℕ). member x (take n ws)) (sym d) ∙ sym e ∙ l))
+pub first-more : (s : Slot) (u : List ℕ) (from p : ℕ) {w : ℕ} {r : Bool} → w ≡ wordAt u p → r ≡ takes s w → r ≡ false
+    → ((k : ℕ) → k < p → from ≤ k → takesAt s u k ≡ true → ⊥) → (k : ℕ) → k < p + 1 → from ≤ k → takesAt s u k ≡ true → ⊥
+first-more s u from p d e l h = below-more _ p h (λ _ g. true≢false (sym g ∙ ap (takes s) (sym d) ∙ sym e ∙ l))
 
 -- the text as it is read
 pub seen-back : (b : Bool) (t : List ℕ) (p : ℕ) → b ≡ true → 1 ≤ p → p ≤ length t → getD t (length t - p) 0 ≡ wordAt (seen b t) p

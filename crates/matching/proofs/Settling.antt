@@ -9,29 +9,29 @@ use lib.ListN.{length, take, set}
 use lib.Seq.{getD-take, length-take-le}
 use Rattle.pattern.specs.declared.Pattern.{Pattern}
 use Rattle.matching.specs.declared.search.Answer.{Answer}
-use Rattle.matching.specs.Occurrence.{Occurs, at}
+use Rattle.matching.specs.Occurrence.{View, OccursIn, at}
 use Rattle.matching.specs.Rows.{Before, NotAfter}
 use Rattle.matching.specs.Steps.Bounds.{Next}
 use Rattle.matching.proofs.Raising.{rising-same, stable, raised, placed}
 use Rattle.matching.specs.Steps.Settling.{Ready, Visited, Placed, Never, Rising, Stable, Settled, Started, Answered, Spare}
 
 -- the invariant of the rounds: the slots of the last `calm` visits are stable
-pub record Calm (f : Pattern) (t p₀ p : List ℕ) (calm j : ℕ) : Type 0 where
-  pub rising : Rising f t p₀ p
+pub record Calm (f : Pattern) (v : View) (p₀ p : List ℕ) (calm j : ℕ) : Type 0 where
+  pub rising : Rising f v p₀ p
   pub slot : j < f .count
   pub within : calm ≤ f .count
-  pub near : (k : ℕ) → k < j → j ≤ k + calm → Stable f t p k
-  pub far : (k : ℕ) → k < f .count → j + f .count ≤ k + calm → Stable f t p k
+  pub near : (k : ℕ) → k < j → j ≤ k + calm → Stable f v p k
+  pub far : (k : ℕ) → k < f .count → j + f .count ≤ k + calm → Stable f v p k
 
-module _ {f : Pattern} {t : List ℕ} where
-  pub calm-begin : (p : List ℕ) → length p ≡ 16 → 1 ≤ f .count → Calm f t p p 0 0
+module _ {f : Pattern} {v : View} where
+  pub calm-begin : (p : List ℕ) → length p ≡ 16 → 1 ≤ f .count → Calm f v p p 0 0
   calm-begin p e h = record { rising = rising-same p e; slot = h; within = omega arith; near = λ k l _. absurd (omega arith); far = λ k l b. absurd (omega arith) }
 
-  module _ {p₀ p : List ℕ} {calm j k r : ℕ} (S : Calm f t p₀ p calm j) (N : Next (f .count) j k) (W : Visited f t p j r) (h : r ≤ length t) where
-    pub calm-same : calm < f .count → r ≡ at p j → Calm f t p₀ p (calm + 1) k
+  module _ {p₀ p : List ℕ} {calm j k r : ℕ} (S : Calm f v p₀ p calm j) (N : Next (f .count) j k) (W : Visited f v p j r) (h : r ≤ v .places) where
+    pub calm-same : calm < f .count → r ≡ at p j → Calm f v p₀ p (calm + 1) k
     calm-same l e =
         let here = stable W e h in
-        let one : (i : ℕ) → i ≡ j → Stable f t p i = λ i q. rw q here in
+        let one : (i : ℕ) → i ≡ j → Stable f v p i = λ i q. rw q here in
         record {
           rising = S .rising;
           slot = N .inside;
@@ -40,31 +40,31 @@ module _ {f : Pattern} {t : List ℕ} where
           far = λ i a b. elim (ℕ-discrete i j) [ yes q ↦ one i q | no q ↦ elim (ℕ-discrete (j + 1) (f .count)) [ yes y ↦ S .near i (omega arith) (omega (arith, N .round y)) | no y ↦ S .far i a (omega (arith, N .on (omega (arith, S .slot)))) ] ];
         }
 
-    pub calm-raise : f .count ≤ 16 → Calm f t p₀ (set p j r) 0 k
+    pub calm-raise : f .count ≤ 16 → Calm f v p₀ (set p j r) 0 k
     calm-raise few = record { rising = raised (S .rising) W (S .slot) few; slot = N .inside; within = omega arith; near = λ i a b. absurd (omega arith); far = λ i a b. absurd (omega arith) }
 
-  pub all-calm : {p₀ p : List ℕ} {calm j : ℕ} → Calm f t p₀ p calm j → f .count ≤ calm → (k : ℕ) → k < f .count → Stable f t p k
+  pub all-calm : {p₀ p : List ℕ} {calm j : ℕ} → Calm f v p₀ p calm j → f .count ≤ calm → (k : ℕ) → k < f .count → Stable f v p k
   all-calm {j = j} S h k l = elim (decLt k j) [ yes a ↦ S .near k a (omega (arith, S .slot)) | no a ↦ S .far k l (omega arith) ]
 
 -- a row at which nothing has to be raised is an occurrence
-pub occurs : (f : Pattern) (t p : List ℕ) → 1 ≤ f .count → f .count ≤ length p → ((k : ℕ) → k < f .count → 1 ≤ at p k) → ((k : ℕ) → k < f .count → Stable f t p k) → Occurs f t (take (f .count) p)
-occurs f t p some few pos still =
+pub occurs : (f : Pattern) (v : View) (p : List ℕ) → 1 ≤ f .count → f .count ≤ length p → ((k : ℕ) → k < f .count → 1 ≤ at p k) → ((k : ℕ) → k < f .count → Stable f v p k) → OccursIn f v (take (f .count) p)
+occurs f v p some few pos still =
     let m = f .count in
     let e : (k : ℕ) → k < m → at (take m p) k ≡ at p k = λ k h. getD-take m p k 0 h in
     let last : m - 1 < m = omega arith in
     record {
       size = length-take-le m p few;
       inside = λ k h. omega (arith, e k h, pos k h, still k h .inside);
-      word = λ k h. rw (e k h) (still k h .word);
+      fit = λ k h. rw (e k h) (still k h .fit);
       gap = λ k h. let i : k + 1 - 1 ≡ k = omega arith in let z : k < m = omega arith in let y : 0 < k + 1 = omega arith in omega (arith, e k z, e (k + 1) h, rw i at (still (k + 1) h .bound .after y), still k z .bound .before h);
       span = let y : m - 1 + 1 ≡ m = omega arith in omega (arith, e 0 some, e (m - 1) last, still (m - 1) last .bound .ends y, still 0 some .bound .starts refl);
     }
 
 -- nothing is left to raise
-pub settled : {f : Pattern} {t p₀ p : List ℕ} → Ready f t → Placed (f .count) p₀ → Rising f t p₀ p → ((k : ℕ) → k < f .count → Stable f t p k) → Settled f t p₀ (record { found = true; places = p })
-settled {f = f} {t = t} {p = p} ok pos S still =
+pub settled : {f : Pattern} {v : View} {p₀ p : List ℕ} → Ready f (v .places) → Placed (f .count) p₀ → Rising f v p₀ p → ((k : ℕ) → k < f .count → Stable f v p k) → Settled f v p₀ (record { found = true; places = p })
+settled {f = f} {v = v} {p = p} ok pos S still =
     record {
-      occurs = λ _. occurs f t p (ok .some) (omega (arith, S .size, ok .few)) (placed S pos) still;
+      occurs = λ _. occurs f v p (ok .some) (omega (arith, S .size, ok .few)) (placed S pos) still;
       size = λ _. S .size;
       above = λ _. S .above;
       rest = λ _. S .rest;
@@ -72,14 +72,14 @@ settled {f = f} {t = t} {p = p} ok pos S still =
       none = λ e. absurd (true≢false e);
     }
 
-pub unsettled : {f : Pattern} {t p₀ : List ℕ} {a : Answer} → a .found ≡ false → Never f t p₀ → Settled f t p₀ a
+pub unsettled : {f : Pattern} {v : View} {p₀ : List ℕ} {a : Answer} → a .found ≡ false → Never f v p₀ → Settled f v p₀ a
 unsettled {a = a} e h =
     let no-such : a .found ≡ true → ⊥ = λ g. true≢false (sym g ∙ e) in
     record { occurs = λ g. absurd (no-such g); size = λ g. absurd (no-such g); above = λ g. absurd (no-such g); rest = λ g. absurd (no-such g); first = λ g. absurd (no-such g); none = λ _. h }
 
 -- the search's answer, from the row just past the marks and the earliest occurrence at or after it
-module _ (f : Pattern) (t : List ℕ) {n : ℕ} {marks : List ℕ} {s : Answer} (size : n ≡ length t) (S : Started (f .count) n marks s) where
-  pub answered : {a : Answer} → Spare (f .count) marks → s .found ≡ true → Settled f t (s .places) a → Answered f t marks a
+module _ (f : Pattern) (v : View) {marks : List ℕ} {s : Answer} (S : Started (f .count) (v .places) marks s) where
+  pub answered : {a : Answer} → Spare (f .count) marks → s .found ≡ true → Settled f v (s .places) a → Answered f v marks a
   unfolding Before NotAfter
   answered {a} clear e A =
       let m = f .count in
@@ -91,7 +91,7 @@ module _ (f : Pattern) (t : List ℕ) {n : ℕ} {marks : List ℕ} {s : Answer} 
         none = λ g q O P. A .none g q O (up q P);
       }
 
-  pub unanswered : {a : Answer} → a .found ≡ false → s .found ≡ false → Answered f t marks a
+  pub unanswered : {a : Answer} → a .found ≡ false → s .found ≡ false → Answered f v marks a
   unfolding Before
   unanswered {a} d e =
       let no-such : a .found ≡ true → ⊥ = λ g. true≢false (sym g ∙ d) in

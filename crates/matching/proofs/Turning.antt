@@ -5,16 +5,16 @@ use mathlib.Core.List.{List}
 use mathlib.Core.Path.{_≡_, ap, _∙_}
 use lib.ListN.{length, set}
 use Rattle.pattern.specs.declared.Pattern.{Pattern}
-use Rattle.pattern.specs.Patterns.{slotAt}
+use Rattle.pattern.specs.declared.slot.Slot.{Slot}
+use Rattle.pattern.specs.Patterns.{takes, slotAt, withGap}
+use Rattle.pattern.specs.Laws.Slots.{takes-gap}
 use Rattle.pattern.specs.Laws.Arrays.{set-more}
 use Rattle.matching.specs.Occurrence.{at}
 use Rattle.matching.specs.Steps.Turning.{Gap, TurnedSlot}
 
-pub turned-slot : (f : Pattern) (j k : ℕ) → j < f .count → Gap (f .count) j k
-    → TurnedSlot f j (record { words = slotAt f (f .count - 1 - j) .words; count = slotAt f (f .count - 1 - j) .count; low = slotAt f k .low; high = slotAt f k .high })
-turned-slot f j k l G = record {
-  words = λ i e. ap (λ (x : ℕ). slotAt f x .words) (omega arith);
-  count = λ i e. ap (λ (x : ℕ). slotAt f x .count) (omega arith);
+pub turned-slot : (f : Pattern) (j k : ℕ) {s : Slot} → j < f .count → Gap (f .count) j k → s ≡ withGap (slotAt f (f .count - 1 - j)) (slotAt f k .low) (slotAt f k .high) → TurnedSlot f j s
+turned-slot f j k l G d = rw d record {
+  words = λ i e w. takes-gap (slotAt f (f .count - 1 - j)) (slotAt f k .low) (slotAt f k .high) w ∙ ap (λ (x : ℕ). takes (slotAt f x) w) (omega arith);
   low = λ i e h. ap (λ (x : ℕ). slotAt f x .low) (omega (arith, G .back h));
   high = λ i e h. ap (λ (x : ℕ). slotAt f x .high) (omega (arith, G .back h));
 }

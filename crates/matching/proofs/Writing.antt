@@ -10,7 +10,8 @@ use lib.Seq.{paste, length-take-le, take-append-seam, drop-append-add, drop-appe
 use Rattle.pattern.specs.declared.Pattern.{Pattern}
 use Rattle.matching.specs.declared.search.Answer.{Answer}
 use Rattle.matching.specs.Collections.{Every, none, more}
-use Rattle.matching.specs.Lists.{leftmost}
+use Rattle.matching.specs.Occurrence.{View}
+use Rattle.matching.specs.Lists.{leftmostIn}
 use Rattle.matching.specs.Written.{flat, written}
 use Rattle.matching.specs.Steps.Settling.{Ready, Answered}
 use Rattle.matching.specs.Laws.Collections.{every-map}
@@ -75,23 +76,23 @@ written-more m F row l₀ l q room sizes =
 
 -- ---- the loop
 
-pub record Writing (g : Pattern) (u l₀ l marks : List ℕ) (k : ℕ) : Type 0 where
+pub record Writing (g : Pattern) (u : View) (l₀ l marks : List ℕ) (k : ℕ) : Type 0 where
   pub counted : Counted g u marks k
   pub content : l ≡ written (g .count) (counted .rows) l₀
   pub size : length l ≡ length l₀
 
-pub writing-begin : (g : Pattern) (u l : List ℕ) → g .count ≤ 16 → Writing g u l l (replicate 16 0) 0
+pub writing-begin : (g : Pattern) (u : View) (l : List ℕ) → g .count ≤ 16 → Writing g u l l (replicate 16 0) 0
 unfolding counted-begin flat
 writing-begin g u l few = record { counted = counted-begin g u few; content = ap (λ (x : ℕ). drop x l) (sym (zero-mul (g .count))); size = refl }
 
-module _ {g : Pattern} {u l₀ l marks : List ℕ} {k : ℕ} (W : Writing g u l₀ l marks k) (ok : Ready g u) {a : Answer} (A : Answered g u marks a) where
+module _ {g : Pattern} {u : View} {l₀ l marks : List ℕ} {k : ℕ} (W : Writing g u l₀ l marks k) (ok : Ready g (u .places)) {a : Answer} (A : Answered g u marks a) where
   -- a row that was found has room
-  pub room-next : a .found ≡ true → length (leftmost g u) * g .count ≤ length l₀ → k * g .count + g .count ≤ length l
+  pub room-next : a .found ≡ true → length (leftmostIn g u) * g .count ≤ length l₀ → k * g .count + g .count ≤ length l
   room-next e room =
       let h = counted-within (counted-more (W .counted) ok A e) ok in
-      omega (arith, W .size, mul-within k (length (leftmost g u)) (g .count) (omega arith) room)
+      omega (arith, W .size, mul-within k (length (leftmostIn g u)) (g .count) (omega arith) room)
 
-  pub writing-more : a .found ≡ true → length (leftmost g u) * g .count ≤ length l₀ → {l′ : List ℕ}
+  pub writing-more : a .found ≡ true → length (leftmostIn g u) * g .count ≤ length l₀ → {l′ : List ℕ}
       → l′ ≡ paste l (k * g .count) (a .places) (g .count) → length l′ ≡ length l → Writing g u l₀ l′ (a .places) (k + 1)
   unfolding counted-more
   writing-more e room {l′} E L =
@@ -104,5 +105,5 @@ module _ {g : Pattern} {u l₀ l marks : List ℕ} {k : ℕ} (W : Writing g u l�
         size = L ∙ W .size;
       }
 
-  pub writing-all : a .found ≡ false → l ≡ written (g .count) (leftmost g u) l₀
+  pub writing-all : a .found ≡ false → l ≡ written (g .count) (leftmostIn g u) l₀
   writing-all e = W .content ∙ ap (λ (F : List (List ℕ)). written (g .count) F l₀) (counted-all (W .counted) ok A e)

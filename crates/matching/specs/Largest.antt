@@ -4,21 +4,24 @@ use mathlib.Core.Path.{_≡_}
 use mathlib.Core.List.{List, []}
 use lib.ListN.{length, getD}
 use Rattle.pattern.specs.declared.Pattern.{Pattern}
-use Rattle.matching.specs.Occurrence.{Occurs}
+use Rattle.matching.specs.Occurrence.{View, plain, OccursIn}
 use Rattle.matching.specs.Collections.{Every}
-use Rattle.matching.specs.Nonoverlap.{Nonoverlapping}
+use Rattle.matching.specs.Nonoverlap.{NonoverlappingIn}
 use Rattle.matching.specs.Rows.{NotAfter}
 use Rattle.matching.specs.Rising.{rising}
 
-pub record Largest (f : Pattern) (t : List ℕ) (F B : List (List ℕ)) : Type 0 where
-  pub front : Nonoverlapping f t F
-  pub back : Nonoverlapping f t B
+pub record LargestIn (f : Pattern) (v : View) (F B : List (List ℕ)) : Type 0 where
+  pub front : NonoverlappingIn f v F
+  pub back : NonoverlappingIn f v B
   pub equal : length F ≡ length B
   -- however its rows cross
-  pub most : (H : List (List ℕ)) → Nonoverlapping f t H → length H ≤ length F
-  pub occur : (H : List (List ℕ)) → Nonoverlapping f t H → Every (Occurs f t) (rising H)
+  pub most : (H : List (List ℕ)) → NonoverlappingIn f v H → length H ≤ length F
+  pub occur : (H : List (List ℕ)) → NonoverlappingIn f v H → Every (OccursIn f v) (rising H)
   -- row by row from the start, at no slot earlier than the front list
-  pub above : (H : List (List ℕ)) → Nonoverlapping f t H → (k : ℕ) → k < length H → NotAfter (f .count) (getD F k []) (getD (rising H) k [])
+  pub above : (H : List (List ℕ)) → NonoverlappingIn f v H → (k : ℕ) → k < length H → NotAfter (f .count) (getD F k []) (getD (rising H) k [])
   -- row by row from the end, at no slot later than the back list: row i of the set and row j of the back list have k rows after them
-  pub below : (H : List (List ℕ)) → Nonoverlapping f t H → (i j k : ℕ) → i + k + 1 ≡ length H → j + k + 1 ≡ length B
+  pub below : (H : List (List ℕ)) → NonoverlappingIn f v H → (i j k : ℕ) → i + k + 1 ≡ length H → j + k + 1 ≡ length B
       → NotAfter (f .count) (getD (rising H) i []) (getD B j [])
+
+abbrev pub Largest : Pattern → List ℕ → List (List ℕ) → List (List ℕ) → Type 0
+Largest f t F B = LargestIn f (plain f t) F B

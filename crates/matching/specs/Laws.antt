@@ -16,6 +16,7 @@ pub mod Searching
 pub mod Bounding
 pub mod Extremes
 pub mod Largest
+pub mod Views
 pub mod Lengths
 pub mod Texts
 pub mod Mirror

@@ -2,10 +2,10 @@
 use Prim.Native.Nat.{ℕ, zero, suc}
 use mathlib.Core.List.{List, [], _∷_, reverse}
 use mathlib.Core.Option.{Option, none, some}
-use lib.ListN.{length}
 use Rattle.pattern.specs.declared.Pattern.{Pattern}
+use Rattle.matching.specs.Occurrence.{View, plain}
 use Rattle.matching.specs.Rows.{level}
-use Rattle.matching.specs.Searches.{earliest, latest}
+use Rattle.matching.specs.Searches.{earliestIn, latestIn}
 
 -- the row that a search found and what follows it, or nothing
 unfoldable pub onward : Option (List ℕ) → (List ℕ → List (List ℕ)) → List (List ℕ)
@@ -17,10 +17,16 @@ unfoldable pub follow : (List ℕ → Option (List ℕ)) → ℕ → List ℕ �
 follow search zero marks = []
 follow search (suc n) marks = onward (search marks) (λ r. follow search n r)
 
--- the front list: no two rows have the same first place, so there are at most as many rows as words
-unfoldable pub leftmost : Pattern → List ℕ → List (List ℕ)
-leftmost f t = follow (λ marks. earliest f t marks) (length t) (level (f .count) 0)
+-- the front list: no two rows have the same first place, so there are at most as many rows as places
+unfoldable pub leftmostIn : Pattern → View → List (List ℕ)
+leftmostIn f v = follow (λ marks. earliestIn f v marks) (v .places) (level (f .count) 0)
+
+abbrev pub leftmost : Pattern → List ℕ → List (List ℕ)
+leftmost f t = leftmostIn f (plain f t)
 
 -- the back list, found from its last row on
-unfoldable pub rightmost : Pattern → List ℕ → List (List ℕ)
-rightmost f t = reverse (follow (λ marks. latest f t marks) (length t) (level (f .count) 65535))
+unfoldable pub rightmostIn : Pattern → View → List (List ℕ)
+rightmostIn f v = reverse (follow (λ marks. latestIn f v marks) (v .places) (level (f .count) 65535))
+
+abbrev pub rightmost : Pattern → List ℕ → List (List ℕ)
+rightmost f t = rightmostIn f (plain f t)

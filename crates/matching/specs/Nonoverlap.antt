@@ -2,9 +2,12 @@
 use Prim.Native.Nat.{ℕ}
 use mathlib.Core.List.{List}
 use Rattle.pattern.specs.declared.Pattern.{Pattern}
-use Rattle.matching.specs.Occurrence.{Occurs, Apart}
+use Rattle.matching.specs.Occurrence.{View, plain, OccursIn, Apart}
 use Rattle.matching.specs.Collections.{Every, Pairwise}
 
-pub record Nonoverlapping (f : Pattern) (t : List ℕ) (H : List (List ℕ)) : Type 0 where
-  pub occur : Every (Occurs f t) H
+pub record NonoverlappingIn (f : Pattern) (v : View) (H : List (List ℕ)) : Type 0 where
+  pub occur : Every (OccursIn f v) H
   pub apart : Pairwise (Apart (f .count)) H
+
+abbrev pub Nonoverlapping : Pattern → List ℕ → List (List ℕ) → Type 0
+Nonoverlapping f t H = NonoverlappingIn f (plain f t) H

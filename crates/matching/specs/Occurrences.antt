@@ -6,8 +6,8 @@ use mathlib.Core.List.{List, [], _∷_, _++_, map}
 use lib.ListN.{length}
 use lib.Dec.{leb, eqb}
 use Rattle.pattern.specs.declared.Pattern.{Pattern}
-use Rattle.pattern.specs.Patterns.{takes, slotAt}
-use Rattle.matching.specs.Occurrence.{at, wordAt}
+use Rattle.pattern.specs.Patterns.{slotAt}
+use Rattle.matching.specs.Occurrence.{View, plain, at}
 use Rattle.matching.specs.Collections.{select}
 
 -- ---- the test of Definition 3
@@ -20,13 +20,16 @@ unfoldable pub each : ℕ → (ℕ → Bool) → Bool
 each zero p = true
 each (suc n) p = p n && each n p
 
-unfoldable pub occurs : Pattern → List ℕ → List ℕ → Bool
-occurs f t r =
+unfoldable pub occursIn : Pattern → View → List ℕ → Bool
+occursIn f v r =
     eqb (length r) (f .count)
-    && each (f .count) (λ j. within 1 (at r j) (length t))
-    && each (f .count) (λ j. takes (slotAt f j) (wordAt t (at r j)))
+    && each (f .count) (λ j. within 1 (at r j) (v .places))
+    && each (f .count) (λ j. v .fits j (at r j))
     && each (f .count - 1) (λ j. within (at r j + slotAt f (j + 1) .low + 1) (at r (j + 1)) (at r j + slotAt f (j + 1) .high + 1))
     && within (at r 0 + f .least) (at r (f .count - 1) + 1) (at r 0 + f .most)
+
+abbrev pub occurs : Pattern → List ℕ → List ℕ → Bool
+occurs f t r = occursIn f (plain f t) r
 
 -- ---- all rows of places, in lexicographic order
 
@@ -40,7 +43,7 @@ unfoldable pub extend : List ℕ → List (List ℕ) → List (List ℕ)
 extend [] R = []
 extend (p ∷ ps) R = map (λ r. p ∷ r) R ++ extend ps R
 
--- the rows of m places in a text of n words
+-- the rows of m of n places
 unfoldable pub rows : ℕ → ℕ → List (List ℕ)
 rows zero n = [] ∷ []
 rows (suc m) n = extend (places 1 n) (rows m n)
@@ -51,5 +54,8 @@ pub data Lex : List ℕ → List ℕ → Type 0 where
 
 -- ---- those that occur
 
-unfoldable pub occurrences : Pattern → List ℕ → List (List ℕ)
-occurrences f t = select (occurs f t) (rows (f .count) (length t))
+unfoldable pub occurrencesIn : Pattern → View → List (List ℕ)
+occurrencesIn f v = select (occursIn f v) (rows (f .count) (v .places))
+
+abbrev pub occurrences : Pattern → List ℕ → List (List ℕ)
+occurrences f t = occurrencesIn f (plain f t)

@@ -4,8 +4,9 @@ use Prim.Native.Nat.{ℕ}
 use mathlib.Core.List.{List, [], _∷_}
 use mathlib.Core.Option.{Option, none, some}
 use Rattle.pattern.specs.declared.Pattern.{Pattern}
+use Rattle.matching.specs.Occurrence.{View, plain}
 use Rattle.matching.specs.Collections.{select}
-use Rattle.matching.specs.Occurrences.{occurrences}
+use Rattle.matching.specs.Occurrences.{occurrencesIn}
 use Rattle.matching.specs.Rows.{before, meet, join}
 
 -- at each slot the place that `near` prefers among the rows r and R
@@ -26,9 +27,15 @@ unfoldable pub latestOf : ℕ → List (List ℕ) → List ℕ → Option (List 
 latestOf m R marks = extreme join (select (λ r. before m r marks) R)
 
 -- the forward search: the minimal occurrence of those past the marks, which is earliest at every slot, or none
+abbrev pub earliestIn : Pattern → View → List ℕ → Option (List ℕ)
+earliestIn f v marks = earliestOf (f .count) (occurrencesIn f v) marks
+
 abbrev pub earliest : Pattern → List ℕ → List ℕ → Option (List ℕ)
-earliest f t marks = earliestOf (f .count) (occurrences f t) marks
+earliest f t marks = earliestIn f (plain f t) marks
 
 -- the backward search: the maximal occurrence of those before the marks, which is latest at every slot, or none
+abbrev pub latestIn : Pattern → View → List ℕ → Option (List ℕ)
+latestIn f v marks = latestOf (f .count) (occurrencesIn f v) marks
+
 abbrev pub latest : Pattern → List ℕ → List ℕ → Option (List ℕ)
-latest f t marks = latestOf (f .count) (occurrences f t) marks
+latest f t marks = latestIn f (plain f t) marks

@@ -1,31 +1,17 @@
 use crate::rows::put_row;
 use pattern::Pattern;
 use pattern::Slot;
-ghost use mathlib.Core.Path.{_≡_};
-ghost use Prim.Native.Nat.{_+_, _≤_, min};
+ghost use Prim.Native.Nat.{_+_, _≤_};
 ghost use lib.ListN.{length};
 ghost use Rattle.matching.specs.Steps.Layout.{SlotLaid, LaidOut};
 
-// How many of a slot's eight words count.
-fn words_in(count: usize) -> u16
-    ensures { λ r. ⌜ r ≡ min count 8 ⌝ }
-{
-    if count < 8 {
-        return count as u16;
-    }
-    8
-}
-
-// Lays out a slot from the entry `at` on: its gap, how many words it lists, and its words.
+// Lays out a slot from the entry `at` on.
 fn put_slot(layout: &mut [u16], at: usize, slot: Slot)
     requires { ⌜ at + 11 ≤ length (now layout) ⌝ }
     ensures { λ _. ⌜ SlotLaid slot at (now (layout .entry)) (now (layout .exit)) ⌝ }
 {
-    layout[at] = slot.low;
-    layout[at + 1] = slot.high;
-    layout[at + 2] = words_in(slot.count);
-    let words = slot.words;
-    put_row(&mut layout[at + 3..], &words, 8);
+    let numbers = slot.numbers();
+    put_row(&mut layout[at..], &numbers, 11);
 }
 
 // The pattern's slots as numbers, eleven a slot.

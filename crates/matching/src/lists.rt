@@ -13,11 +13,11 @@ ghost use mathlib.Core.List.{_++_};
 ghost use Prim.Native.Nat.{_*_, _<_, _≤_};
 ghost use lib.ListN.{length, take, drop};
 ghost use Rattle.pattern.specs.Tests.{inputVerdict};
-ghost use Rattle.matching.specs.Lists.{leftmost, rightmost};
+ghost use Rattle.matching.specs.Lists.{leftmost, leftmostIn, rightmost};
 ghost use Rattle.matching.specs.Written.{written};
 ghost use Rattle.matching.specs.Answers.{listed, filled, counted, Best};
 ghost use Rattle.matching.specs.Steps.Settling.{Ready};
-ghost use Rattle.matching.specs.Steps.Turning.{seen, flip};
+ghost use Rattle.matching.specs.Steps.Turning.{viewed, flip};
 ghost use Rattle.matching.specs.Steps.Listing.{Faces, shownRows, stored};
 
 // The pattern as it is searched: from the end where mirrored.
@@ -33,8 +33,8 @@ fn faced(pattern: Pattern, mirrored: bool) -> Pattern
 
 // How many rows search after search finds.
 fn count_rows(g: Pattern, text: &[u16], mirrored: bool) -> usize
-    requires { ⌜ Ready g (seen mirrored (now text)) ⌝ }
-    ensures { λ r. ⌜ (r ≡ length (leftmost g (seen mirrored (now (text .entry))))) × (r ≤ 20000) ⌝ }
+    requires { ⌜ Ready g (length (now text)) ⌝ }
+    ensures { λ r. ⌜ (r ≡ length (leftmostIn g (viewed mirrored g (now (text .entry))))) × (r ≤ 20000) ⌝ }
 {
     let layout = lay_out(g);
     let mut last = [0u16; 16];
@@ -50,9 +50,9 @@ fn count_rows(g: Pattern, text: &[u16], mirrored: bool) -> usize
 
 // Writes the rows that search after search finds, and says how many there are.
 fn write_rows(g: Pattern, text: &[u16], mirrored: bool, list: &mut [u16]) -> usize
-    requires { ⌜ Ready g (seen mirrored (now text)) ⌝ ∗ ⌜ length (leftmost g (seen mirrored (now text))) * g .count ≤ length (now list) ⌝ }
-    ensures { λ r. ⌜ (r ≡ length (leftmost g (seen mirrored (now (text .entry))))) × (r ≤ 20000) ⌝ }
-    ensures { λ _. ⌜ now (list .exit) ≡ written (g .count) (leftmost g (seen mirrored (now (text .entry)))) (now (list .entry)) ⌝ }
+    requires { ⌜ Ready g (length (now text)) ⌝ ∗ ⌜ length (leftmostIn g (viewed mirrored g (now text))) * g .count ≤ length (now list) ⌝ }
+    ensures { λ r. ⌜ (r ≡ length (leftmostIn g (viewed mirrored g (now (text .entry))))) × (r ≤ 20000) ⌝ }
+    ensures { λ _. ⌜ now (list .exit) ≡ written (g .count) (leftmostIn g (viewed mirrored g (now (text .entry)))) (now (list .entry)) ⌝ }
 {
     let m = g.count;
     let layout = lay_out(g);
@@ -89,9 +89,9 @@ fn turn_back(list: &mut [u16], size: usize, n: usize)
 
 // Writes the list where its rows have room.
 fn store(g: Pattern, text: &[u16], mirrored: bool, list: &mut [u16]) -> Listed
-    requires { ⌜ Ready g (seen mirrored (now text)) ⌝ ∗ ⌜ length (leftmost g (seen mirrored (now text))) * g .count ≤ length (now list) ⌝ }
-    ensures { λ r. ⌜ r ≡ Listed.Rows (length (leftmost g (seen mirrored (now (text .entry))))) ⌝ }
-    ensures { λ _. ⌜ now (list .exit) ≡ written (g .count) (shownRows mirrored (length (now (text .entry))) (leftmost g (seen mirrored (now (text .entry))))) (now (list .entry)) ⌝ }
+    requires { ⌜ Ready g (length (now text)) ⌝ ∗ ⌜ length (leftmostIn g (viewed mirrored g (now text))) * g .count ≤ length (now list) ⌝ }
+    ensures { λ r. ⌜ r ≡ Listed.Rows (length (leftmostIn g (viewed mirrored g (now (text .entry))))) ⌝ }
+    ensures { λ _. ⌜ now (list .exit) ≡ written (g .count) (shownRows mirrored (length (now (text .entry))) (leftmostIn g (viewed mirrored g (now (text .entry))))) (now (list .entry)) ⌝ }
 {
     let m = g.count;
     let rows = write_rows(g, text, mirrored, list);

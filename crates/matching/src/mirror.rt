@@ -1,6 +1,5 @@
 use crate::places::wide;
 use pattern::Pattern;
-use pattern::Slot;
 ghost use mathlib.Core.Path.{_≡_};
 ghost use Prim.Native.Nat.{_-_, _<_, _≤_};
 ghost use Rattle.matching.specs.Steps.Turning.{Turned, Flipped, Gap};
@@ -30,13 +29,8 @@ pub(crate) fn turned(f: Pattern) -> Pattern
         let s = f.slots[i];
         let k = gap_of(j, m);
         let g = f.slots[k];
-        let w = s.words;
-        slots[j] = Slot {
-            words: w,
-            count: s.count,
-            low: g.low,
-            high: g.high,
-        };
+        let t = s.with_gap(g.low, g.high);
+        slots[j] = t;
         j += 1;
     }
     Pattern {

@@ -1,7 +1,10 @@
+use pattern::Slot;
 ghost use mathlib.Core.Path.{_≡_};
 ghost use Prim.Native.Nat.{_≤_, _<_};
 ghost use lib.ListN.{length};
-ghost use Rattle.matching.specs.Occurrence.{wordAt};
+ghost use Rattle.pattern.specs.declared.slot.Slot.{Slot};
+ghost use Rattle.pattern.specs.Numbers.{Numbers};
+ghost use Rattle.matching.specs.Occurrence.{wordAt, takesAt};
 ghost use Rattle.matching.specs.Steps.Bounds.{First};
 ghost use Rattle.matching.specs.Steps.Turning.{seen};
 
@@ -25,15 +28,15 @@ fn word(text: &[u16], mirrored: bool, place: usize) -> u16
     text[i]
 }
 
-// The first place from `from` on whose word is one of the first `count`, or one past the text.
-pub(crate) fn first(words: &[u16], count: usize, text: &[u16], mirrored: bool, from: usize) -> usize
+// The first place from `from` on whose word the slot with these numbers takes, or one past the text.
+pub(crate) fn first(slot: &[u16], text: &[u16], mirrored: bool, from: usize) -> usize
     requires { ⌜ 1 ≤ from ⌝ }
-    ensures { λ r. ⌜ First (now (words .entry)) count (seen mirrored (now (text .entry))) from r ⌝ }
+    ensures { λ r. ⌜ ((s : Slot) → Numbers s (now (slot .entry)) → First (takesAt s (seen mirrored (now (text .entry)))) (length (now (text .entry))) from r) ⌝ }
 {
     let n = text.len();
     let mut p = from;
     while p <= n {
-        if pattern::lists(words, count, word(text, mirrored, p)) {
+        if Slot::numbers_take(slot, word(text, mirrored, p)) {
             return p;
         }
         p += 1;

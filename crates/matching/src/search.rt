@@ -11,7 +11,7 @@ ghost use lib.ListN.{length};
 ghost use Rattle.matching.specs.Occurrence.{at};
 ghost use Rattle.matching.specs.Steps.Settling.{Ready, Visited, Placed, Settled, Started, Answered, Spare};
 ghost use Rattle.matching.specs.Steps.Layout.{Plan, planned};
-ghost use Rattle.matching.specs.Steps.Turning.{seen};
+ghost use Rattle.matching.specs.Steps.Turning.{viewed};
 
 // Whether there is an occurrence, and then its places, 0 past the pattern's slots.
 pub struct Answer {
@@ -30,8 +30,8 @@ fn visit(
     p: &[u16],
     j: usize,
 ) -> usize
-    requires { ⌜ Plan (seen mirrored (now text)) m least most (now layout) ⌝ ∗ ⌜ (j < m) × (length (now p) ≡ 16) × (1 ≤ at (now p) j) ⌝ }
-    ensures { λ r. ⌜ ((w : Plan (seen mirrored (now (text .entry))) m least most (now (layout .entry))) → Visited (planned w) (seen mirrored (now (text .entry))) (now (p .entry)) j r) ⌝ }
+    requires { ⌜ Plan (length (now text)) m least most (now layout) ⌝ ∗ ⌜ (j < m) × (length (now p) ≡ 16) × (1 ≤ at (now p) j) ⌝ }
+    ensures { λ r. ⌜ ((w : Plan (length (now (text .entry))) m least most (now (layout .entry))) → Visited (planned w) (viewed mirrored (planned w) (now (text .entry))) (now (p .entry)) j r) ⌝ }
 {
     let i = prior(j, m);
     let k = next(j, m);
@@ -48,8 +48,7 @@ fn visit(
         wide(least),
         wide(most),
     );
-    let count = wide(layout[at + 2]);
-    first(&layout[at + 3..at + 11], count, text, mirrored, from)
+    first(&layout[at..at + 11], text, mirrored, from)
 }
 
 // Raises the row to the earliest occurrence at or after it, if there is one: the slots are visited in turn until none asks more.
@@ -62,8 +61,8 @@ fn settle(
     mirrored: bool,
     p: &mut [u16],
 ) -> bool
-    requires { ⌜ Plan (seen mirrored (now text)) m least most (now layout) ⌝ ∗ ⌜ (length (now p) ≡ 16) × Placed m (now p) ⌝ }
-    ensures { λ r. ⌜ ((w : Plan (seen mirrored (now (text .entry))) m least most (now (layout .entry))) → Settled (planned w) (seen mirrored (now (text .entry))) (now (p .entry)) (record { found = r; places = now (p .exit) })) ⌝ }
+    requires { ⌜ Plan (length (now text)) m least most (now layout) ⌝ ∗ ⌜ (length (now p) ≡ 16) × Placed m (now p) ⌝ }
+    ensures { λ r. ⌜ ((w : Plan (length (now (text .entry))) m least most (now (layout .entry))) → Settled (planned w) (viewed mirrored (planned w) (now (text .entry))) (now (p .entry)) (record { found = r; places = now (p .exit) })) ⌝ }
 {
     let n = text.len();
     let mut calm: usize = 0;
@@ -113,8 +112,8 @@ pub(crate) fn advance(
     mirrored: bool,
     p: &mut [u16],
 ) -> bool
-    requires { ⌜ Plan (seen mirrored (now text)) m least most (now layout) ⌝ ∗ ⌜ Spare m (now p) ⌝ }
-    ensures { λ r. ⌜ ((w : Plan (seen mirrored (now (text .entry))) m least most (now (layout .entry))) → Answered (planned w) (seen mirrored (now (text .entry))) (now (p .entry)) (record { found = r; places = now (p .exit) })) ⌝ }
+    requires { ⌜ Plan (length (now text)) m least most (now layout) ⌝ ∗ ⌜ Spare m (now p) ⌝ }
+    ensures { λ r. ⌜ ((w : Plan (length (now (text .entry))) m least most (now (layout .entry))) → Answered (planned w) (viewed mirrored (planned w) (now (text .entry))) (now (p .entry)) (record { found = r; places = now (p .exit) })) ⌝ }
 {
     if start(m, text.len(), p) {
         return settle(layout, m, least, most, text, mirrored, p);
@@ -124,8 +123,8 @@ pub(crate) fn advance(
 
 // The earliest occurrence past the marks in the text, or in the text read from its end.
 pub(crate) fn search(f: Pattern, text: &[u16], mirrored: bool, marks: [u16; 16]) -> Answer
-    requires { ⌜ Ready f (seen mirrored (now text)) ⌝ ∗ ⌜ Spare (f .count) marks ⌝ }
-    ensures { λ r. ⌜ Answered f (seen mirrored (now (text .entry))) marks r ⌝ }
+    requires { ⌜ Ready f (length (now text)) ⌝ ∗ ⌜ Spare (f .count) marks ⌝ }
+    ensures { λ r. ⌜ Answered f (viewed mirrored f (now (text .entry))) marks r ⌝ }
 {
     let layout = lay_out(f);
     let mut places = marks;

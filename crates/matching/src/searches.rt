@@ -8,6 +8,7 @@ use pattern::Verdict;
 ghost use mathlib.Core.Path.{_≡_};
 ghost use Prim.Native.Nat.{_≤_};
 ghost use lib.ListN.{length};
+ghost use Rattle.matching.specs.Occurrence.{plain};
 ghost use Rattle.matching.specs.Answers.{rowVerdict, shownAnswer, firstAfter, lastBefore};
 ghost use Rattle.matching.specs.Steps.Settling.{Ready, Copied, AnsweredBack};
 
@@ -56,8 +57,8 @@ fn row_of(marks: &[u16]) -> [u16; 16]
 
 // The latest occurrence before the marks: the earliest past them in the pattern and the text read from the end.
 fn search_back(f: Pattern, text: &[u16], marks: [u16; 16]) -> Answer
-    requires { ⌜ Ready f (now text) ⌝ }
-    ensures { λ r. ⌜ AnsweredBack f (now (text .entry)) marks r ⌝ }
+    requires { ⌜ Ready f (length (now text)) ⌝ }
+    ensures { λ r. ⌜ AnsweredBack f (plain f (now (text .entry))) marks r ⌝ }
 {
     let m = f.count;
     let n = text.len();

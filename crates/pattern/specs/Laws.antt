@@ -1,4 +1,5 @@
 -- What follows from the definitions.
 pub mod Members
+pub mod Slots
 pub mod Accepting
 pub mod Arrays

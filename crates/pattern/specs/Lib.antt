@@ -1,5 +1,6 @@
 -- What a pattern is, which patterns are refused and why. `Laws` has what follows.
 pub mod Patterns
+pub mod Numbers
 pub mod Refusals
 pub mod Tests
 pub mod Adding

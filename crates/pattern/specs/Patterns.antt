@@ -49,6 +49,10 @@ padded ws = take 8 ws ++ replicate (8 - length ws) 0
 abbrev pub slotOf : ℕ → ℕ → List ℕ → Slot
 slotOf low high ws = record { words = padded ws; count = length ws; low = low; high = high }
 
+-- the slot with another gap before it
+abbrev pub withGap : Slot → ℕ → ℕ → Slot
+withGap s low high = record { words = s .words; count = s .count; low = low; high = high }
+
 -- the pattern with the slot last
 abbrev pub withSlot : Pattern → Slot → Pattern
 withSlot f s = record { slots = set (f .slots) (f .count) s; count = f .count + 1; least = f .least; most = f .most }

@@ -11,7 +11,6 @@ mod slot;
 pub use refusal::Refusal;
 pub use refusal::Verdict;
 pub use slot::Slot;
-pub use slot::lists;
 
 // A pattern with gap and length constraints (document 01: frame; 004, Definition 2).
 #[repr(C)]

@@ -1,7 +1,9 @@
 ghost use mathlib.Core.Path.{_≡_};
-ghost use Rattle.pattern.specs.Patterns.{slotOf, takes, member, padded};
+ghost use Rattle.pattern.specs.declared.slot.Slot.{Slot};
+ghost use Rattle.pattern.specs.Patterns.{slotOf, withGap, takes, member, padded};
+ghost use Rattle.pattern.specs.Numbers.{Numbers};
 ghost use lib.ListN.{take};
-ghost use Prim.Native.Nat.{min};
+ghost use Prim.Native.Nat.{min, _<_};
 
 // One element of a pattern (document 01: slot): the words it takes and the gap before it.
 #[repr(C)]
@@ -22,7 +24,7 @@ fn smaller(a: usize, b: usize) -> usize
 }
 
 // Whether the word is one of the first `count` of the words.
-pub fn lists(words: &[u16], count: usize, word: u16) -> bool
+fn lists(words: &[u16], count: usize, word: u16) -> bool
     ensures { λ r. ⌜ r ≡ member word (take count (now (words .entry))) ⌝ }
 {
     let n = smaller(count, words.len());
@@ -34,6 +36,23 @@ pub fn lists(words: &[u16], count: usize, word: u16) -> bool
         i += 1;
     }
     false
+}
+
+// A number to count with.
+fn wide(x: u16) -> usize
+    ensures { λ r. ⌜ (r ≡ x) × (r < 65536) ⌝ }
+{
+    x as usize
+}
+
+// How many of a slot's eight words count.
+fn stated(count: usize) -> u16
+    ensures { λ r. ⌜ r ≡ min count 8 ⌝ }
+{
+    if count < 8 {
+        return count as u16;
+    }
+    8
 }
 
 // The first eight of the words, and 0 in the entries that they leave.
@@ -67,5 +86,48 @@ impl Slot {
     {
         let words = self.words;
         lists(&words, self.count, word)
+    }
+
+    // The slot with another gap before it.
+    pub fn with_gap(self, low: u16, high: u16) -> Self
+        ensures { λ r. ⌜ r ≡ withGap self low high ⌝ }
+    {
+        let words = self.words;
+        Slot {
+            words,
+            count: self.count,
+            low,
+            high,
+        }
+    }
+
+    // The slot as eleven numbers: the two bounds of its gap, how many words it lists, and its eight words.
+    pub fn numbers(self) -> [u16; 11]
+        ensures { λ r. ⌜ Numbers self r ⌝ }
+    {
+        let w = self.words;
+        [
+            self.low,
+            self.high,
+            stated(self.count),
+            w[0],
+            w[1],
+            w[2],
+            w[3],
+            w[4],
+            w[5],
+            w[6],
+            w[7],
+        ]
+    }
+
+    // Whether the slot with these numbers takes the word.
+    pub fn numbers_take(numbers: &[u16], word: u16) -> bool
+        ensures { λ r. ⌜ ((s : Slot) → Numbers s (now (numbers .entry)) → r ≡ takes s word) ⌝ }
+    {
+        if numbers.len() < 11 {
+            return false;
+        }
+        lists(&numbers[3..11], wide(numbers[2]), word)
     }
 }

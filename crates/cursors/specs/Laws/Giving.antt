@@ -11,6 +11,7 @@ use Rattle.pattern.specs.declared.refusal.Verdict.{Verdict}
 use Rattle.pattern.specs.declared.refusal.Verdict.the-variants.{Accepted, Refused}
 use Rattle.matching.specs.declared.searches.Outcome.{Outcome}
 use Rattle.matching.specs.declared.searches.Outcome.the-variants.{Found, Absent, Refused as NotSearched}
+use Rattle.matching.specs.Occurrence.{plain}
 use Rattle.matching.specs.Searches.{earliest}
 use Rattle.matching.specs.Answers.{sixteen}
 use Rattle.matching.specs.Rows.{Before}
@@ -33,7 +34,7 @@ isFound (NotSearched why) = false
 nearest-by : (v : Verdict) (o : Option (List ℕ)) (s : Cursors) (client : ℕ) (f : Pattern) (t marks : List ℕ) → (v ≡ Accepted → 1 ≤ f .count) → earliest f t marks ≡ o
     → servedBy v o s client .outcome ≡ Found → Earliest f t marks (take (f .count) (servedBy v o s client .places))
 nearest-by Accepted (some row) s client f t marks h e q =
-    let nearest = earliest-some f t (h refl) marks row .0 e in
+    let nearest = earliest-some f (plain f t) (h refl) marks row .0 e in
     rw (first-sixteen row (nearest .hit .size)) nearest
 nearest-by Accepted none s client f t marks h e q = absurd (false≢true (ap isFound q))
 nearest-by (Refused why) o s client f t marks h e q = absurd (false≢true (ap isFound q))
@@ -50,7 +51,7 @@ marks-by : (v : Verdict) (o : Option (List ℕ)) (s : Cursors) (client : ℕ) (f
     → client - 1 < length (s .marks) → servedBy v o s client .outcome ≡ Found
     → take (f .count) (marksOf (servedBy v o s client .cursors) client .places) ≡ take (f .count) (servedBy v o s client .places)
 marks-by Accepted (some row) s client f t marks h e l q =
-    let size = earliest-some f t (h refl) marks row .0 e .hit .size in
+    let size = earliest-some f (plain f t) (h refl) marks row .0 e .hit .size in
     let there : marksOf (moved s client row) client ≡ marksOver row (marksOf s client) = getD-set-same (s .marks) (client - 1) (marksOver row (marksOf s client)) nowhere l in
     ap (λ (m : Marks). take (f .count) (m .places)) there
     ∙ ap (λ (k : ℕ). take k (marksOver row (marksOf s client) .places)) (sym size)

@@ -16,22 +16,19 @@ returns-2 c = decides-false (λ p. omega (arith, c .if2 .taken, p .high))
 sub-i : tie.Need-sub-i
 sub-i c = search needs
 
-slice-aggregate-lists : tie.Need-slice-aggregate-lists
-slice-aggregate-lists c = search needs
+mul-takes : tie.Need-mul-takes
+mul-takes c = search needs
 
-mul-lists : tie.Need-mul-lists
-mul-lists c = search needs
+shared-slice-read-takes : tie.Need-shared-slice-read-takes
+shared-slice-read-takes c = search needs
 
-shared-slice-read-lists : tie.Need-shared-slice-read-lists
-shared-slice-read-lists c = search needs
-
-lists-requires : tie.Need-lists-requires
-lists-requires c κs = search needs
+takes-requires : tie.Need-takes-requires
+takes-requires c κs = search needs
 
 returns-3 : tie.Need-returns-3
-returns-3 c = record { yes = λ e. record { low = omega (arith, c .before .before .before .before .if1 .left); high = omega (arith, c .before .before .before .if2 .left); word = sym (c .lists .ensures) ∙ e }; no = λ e p. true≢false (sym (p .word) ∙ sym (c .lists .ensures) ∙ e) }
+returns-3 c = record { yes = λ e. record { low = omega (arith, c .before .before .before .if1 .left); high = omega (arith, c .before .before .if2 .left); word = sym (c .takes .ensures) ∙ e }; no = λ e p. true≢false (sym (p .word) ∙ sym (c .takes .ensures) ∙ e) }
 
 pub place-fits-spec : {M : Type 1} → statement M
 place-fits-spec =
     tie.close
-    (tie.spec returns returns-2 sub-i slice-aggregate-lists mul-lists shared-slice-read-lists lists-requires returns-3)
+    (tie.spec returns returns-2 sub-i mul-takes shared-slice-read-takes takes-requires returns-3)

@@ -12,10 +12,20 @@ use Rattle.hits.proofs.words_fit.Statement.{statement}
 use Rattle.hits.proofs.words_fit.Tie as tie
 
 abbrev Inv-loop : tie.InvT-loop
-Inv-loop text row pattern m j₀ j = (j ≤ m) × ((k : ℕ) → k < j → PlaceFits (slotAt pattern k .words) (slotAt pattern k .count) text (at row k))
+Inv-loop text row pattern m j₀ j = (j ≤ m) × ((k : ℕ) → k < j → PlaceFits (slotAt pattern k) text (at row k))
 
 abbrev μ-loop : tie.MeasureT-loop
 μ-loop text row pattern m j₀ j = m - j
+
+-- the places of the body, from the call back
+abbrev test-at : tie.After-place-fits Inv-loop μ-loop → tie.In-loop Inv-loop μ-loop
+test-at c = c .before .before .before .before
+
+abbrev loop-at : tie.After-place-fits Inv-loop μ-loop → tie.At-loop Inv-loop μ-loop
+loop-at c = test-at c .before
+
+abbrev start : tie.After-place-fits Inv-loop μ-loop → tie.Start Inv-loop μ-loop
+start c = loop-at c .before .before .before
 
 loop-holds : tie.Need-loop-holds Inv-loop μ-loop
 loop-holds c = (search needs, below-none _)
@@ -39,7 +49,7 @@ place-fits-requires : tie.Need-place-fits-requires Inv-loop μ-loop
 place-fits-requires c κs = search needs
 
 returns : tie.Need-returns Inv-loop μ-loop
-returns c = decides-false (λ p. c .before .place-fits .ensures .no (not-true _ (c .if1 .taken)) (rw (c .before .before .wide .ensures .0) (p (c .before .before .before .before .before .before .before .loop .j) (c .before .before .before .before .before .before .loop-test .taken))))
+returns c = decides-false (λ p. c .before .place-fits .ensures .no (not-true _ (c .if1 .taken)) (rw (c .before .before .wide .ensures .0) (p (loop-at (c .before) .loop .j) (test-at (c .before) .loop-test .taken))))
 
 add-j : tie.Need-add-j Inv-loop μ-loop
 add-j c = search needs
@@ -48,7 +58,10 @@ loop-less : tie.Need-loop-less Inv-loop μ-loop
 loop-less c = search needs
 
 loop-again : tie.Need-loop-again Inv-loop μ-loop
-loop-again c = (search needs, words-more (c .before .before .before .before .before .before .before .before .before .before .args .t1) (c .before .before .before .before .before .before .before .before .before .before .args .text .now) (c .before .before .before .before .before .before .before .before .before .before .args .row .now) (c .before .before .before .before .before .before .before .loop .j) (c .before .before .wide .ensures .0) (c .before .before .before .before .before .before .before .loop .inv .1) (c .before .place-fits .ensures .yes (not-false _ (c .if1 .left))))
+loop-again c =
+    let a = start (c .before) .args in
+    let l = loop-at (c .before) .loop in
+    (search needs, words-more (a .t1) (a .text .now) (a .row .now) (l .j) (c .before .before .wide .ensures .0) (l .inv .1) (c .before .place-fits .ensures .yes (not-false _ (c .if1 .left))))
 
 returns-2 : tie.Need-returns-2 Inv-loop μ-loop
 returns-2 c = decides-true (λ k h. c .before .loop .inv .1 k (omega (arith, c .loop-test .left)))

@@ -9,7 +9,7 @@ use lib.ListN.{length, take, drop, length-take, length-drop}
 use Rattle.pattern.specs.declared.Pattern.{Pattern}
 use Rattle.pattern.specs.declared.refusal.Verdict.{Verdict}
 use Rattle.pattern.specs.declared.refusal.Verdict.the-variants.{Accepted, Refused}
-use Rattle.matching.specs.Occurrence.{Occurs, at}
+use Rattle.matching.specs.Occurrence.{plain, Occurs, at}
 use Rattle.matching.specs.Occurrences.{occurs}
 use Rattle.matching.specs.Answers.{rowVerdict}
 use Rattle.matching.specs.Laws.Ready.{RowAccepted, row-accepted}
@@ -32,7 +32,7 @@ tested-yes (Refused why) b e = let z : _≡_ {A = ℕ} 0 1 = cc in absurd (omega
 pub hit : (f : Pattern) (t row : List ℕ) → isOccurrence f t row ≡ Yes → Hit f t row
 hit f t row e =
     let b = tested-yes (rowVerdict f t row) (occurs f t row) e in
-    record { accepted = row-accepted (b .0); occurs = occurs-iff f t row .0 (b .1) }
+    record { accepted = row-accepted (b .0); occurs = occurs-iff f (plain f t) row .0 (b .1) }
 
 -- from its first place to its last
 pub hit-first : {f : Pattern} {t row : List ℕ} → Hit f t row → 1 ≤ at row 0

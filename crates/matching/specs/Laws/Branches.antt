@@ -8,11 +8,11 @@ use lib.ListN.{length, length-map}
 use lib.Dec.{leb, ltb}
 use borrow.Author.Tests.{leb-true, le-leb}
 use Rattle.pattern.specs.declared.Pattern.{Pattern}
-use Rattle.matching.specs.Occurrence.{Occurs, at, wordAt}
-use Rattle.pattern.specs.Patterns.{takes, slotAt}
+use Rattle.matching.specs.Occurrence.{View, OccursIn, at}
+use Rattle.pattern.specs.Patterns.{slotAt}
 use Rattle.matching.specs.Collections.{Every, Pairwise, none, more}
 use Rattle.matching.specs.Laws.Collections.{every-of, every-map, every-mem, every-both, pairwise-append, map-every, map-pairwise}
-use Rattle.matching.specs.Occurrences.{Lex, here, after, places, occurrences}
+use Rattle.matching.specs.Occurrences.{Lex, here, after, places, occurrencesIn}
 use Rattle.matching.specs.Laws.Enumeration.{places-mem, places-rise, occurrences-iff, occurrences-lex}
 use Rattle.matching.specs.Laws.Sums.{total, gather, gather-mem, gather-every, length-gather}
 use Rattle.matching.specs.Laws.Ordering.{lex-unique}
@@ -73,61 +73,61 @@ unfolding places
 places-between p zero = none
 places-between p (suc n) = more {x = p} (omega arith, omega arith) (every-map (λ q h. (omega arith, omega arith)) (places-between (suc p) n))
 
-module _ (f : Pattern) (t : List ℕ) (stop : ℕ → ℕ) (from : ℕ) where
-  -- the slot may stand at the place, which is short of the slot's stop
-  unfoldable pub fits : ℕ → ℕ → Bool
-  fits j p = ltb p (stop j) && takes (slotAt f j) (wordAt t p)
+module _ (f : Pattern) (v : View) (stop : ℕ → ℕ) (from : ℕ) where
+  -- the slot fits the place, which is short of the slot's stop
+  unfoldable pub stands : ℕ → ℕ → Bool
+  stands j p = ltb p (stop j) && v .fits j p
 
   -- the rows of the slot j and the k after it, the last not before `from`
   pub data Part : ℕ → ℕ → List ℕ → Type 0 where
-    end : {j p : ℕ} → fits j p ≡ true → from ≤ p → Part zero j (p ∷ [])
-    step : {k j p : ℕ} {r : List ℕ} → fits j p ≡ true → p + slotAt f (suc j) .low + 1 ≤ at r 0 → at r 0 ≤ p + slotAt f (suc j) .high + 1
+    end : {j p : ℕ} → stands j p ≡ true → from ≤ p → Part zero j (p ∷ [])
+    step : {k j p : ℕ} {r : List ℕ} → stands j p ≡ true → p + slotAt f (suc j) .low + 1 ≤ at r 0 → at r 0 ≤ p + slotAt f (suc j) .high + 1
         → Part k (suc j) r → Part (suc k) j (p ∷ r)
 
   -- all of them that start at the place p
   unfoldable pub branches : ℕ → ℕ → ℕ → List (List ℕ)
-  branches zero j p = only (fits j p && leb from p) ((p ∷ []) ∷ [])
+  branches zero j p = only (stands j p && leb from p) ((p ∷ []) ∷ [])
   branches (suc k) j p =
-      only (fits j p)
+      only (stands j p)
       (map (λ r. p ∷ r) (gather (branches k (suc j)) (places (p + slotAt f (suc j) .low + 1) (slotAt f (suc j) .high + 1 - slotAt f (suc j) .low))))
 
   -- and their number
   unfoldable pub ways : ℕ → ℕ → ℕ → ℕ
-  ways zero j p = when (fits j p && leb from p) 1
+  ways zero j p = when (stands j p && leb from p) 1
   ways (suc k) j p =
-      when (fits j p)
+      when (stands j p)
       (total (slotAt f (suc j) .high + 1 - slotAt f (suc j) .low) (ways k (suc j)) (p + slotAt f (suc j) .low + 1))
 
   pub length-branches : (k j p : ℕ) → length (branches k j p) ≡ ways k j p
   unfolding branches ways
-  length-branches zero j p = length-only (fits j p && leb from p) ((p ∷ []) ∷ [])
+  length-branches zero j p = length-only (stands j p && leb from p) ((p ∷ []) ∷ [])
   length-branches (suc k) j p =
       let lo = slotAt f (suc j) .low in
       let hi = slotAt f (suc j) .high in
       let rows = gather (branches k (suc j)) (places (p + lo + 1) (hi + 1 - lo)) in
-      length-only (fits j p) (map (λ r. p ∷ r) rows)
-      ∙ ap (when (fits j p)) (length-map rows (λ r. p ∷ r) ∙ length-gather (branches k (suc j)) (ways k (suc j)) (hi + 1 - lo) (p + lo + 1) (length-branches k (suc j)))
+      length-only (stands j p) (map (λ r. p ∷ r) rows)
+      ∙ ap (when (stands j p)) (length-map rows (λ r. p ∷ r) ∙ length-gather (branches k (suc j)) (ways k (suc j)) (hi + 1 - lo) (p + lo + 1) (length-branches k (suc j)))
 
   branches-start : (k j p : ℕ) → Every (Starts p) (branches k j p)
   unfolding branches
-  branches-start zero j p = only-every (fits j p && leb from p) (λ e. more starts none)
-  branches-start (suc k) j p = only-every (fits j p) (λ e. map-every (λ r. p ∷ r) {P = λ r. Unit {0}} (λ r u. starts)
+  branches-start zero j p = only-every (stands j p && leb from p) (λ e. more starts none)
+  branches-start (suc k) j p = only-every (stands j p) (λ e. map-every (λ r. p ∷ r) {P = λ r. Unit {0}} (λ r u. starts)
       (every-of (λ r. tt) (gather (branches k (suc j)) (places (p + slotAt f (suc j) .low + 1) (slotAt f (suc j) .high + 1 - slotAt f (suc j) .low)))))
 
   branches-lex : (k j p : ℕ) → Pairwise Lex (branches k j p)
   unfolding branches
-  branches-lex zero j p = only-pairwise (fits j p && leb from p) (more none none)
+  branches-lex zero j p = only-pairwise (stands j p && leb from p) (more none none)
   branches-lex (suc k) j p =
-      only-pairwise (fits j p)
+      only-pairwise (stands j p)
       (map-pairwise (λ r. p ∷ r) (λ r s l. after l) (gather-lex (branches k (suc j)) (branches-start k (suc j)) (branches-lex k (suc j)) (places-rise _ _)))
 
   branches-part : (k j p : ℕ) → Every (Part k j) (branches k j p)
   unfolding branches
-  branches-part zero j p = only-every (fits j p && leb from p) (λ e. let b = and-eq-true-iff (fits j p) (leb from p) .0 e in more (end (b .0) (leb-true from p (b .1))) none)
+  branches-part zero j p = only-every (stands j p && leb from p) (λ e. let b = and-eq-true-iff (stands j p) (leb from p) .0 e in more (end (b .0) (leb-true from p (b .1))) none)
   branches-part (suc k) j p =
       let lo = slotAt f (suc j) .low in
       let hi = slotAt f (suc j) .high in
-      only-every (fits j p) (λ e.
+      only-every (stands j p) (λ e.
       map-every (λ r. p ∷ r) {P = λ r. Part k (suc j) r × (p + lo + 1 ≤ at r 0) × (at r 0 ≤ p + hi + 1)} (λ r h. step e (h .1) (h .2) (h .0))
       (gather-every (branches k (suc j))
       (λ q h. every-map (λ r b. (b .0, omega (arith, starts-at (b .1)), omega (arith, starts-at (b .1)))) (every-both (branches-part k (suc j) q) (branches-start k (suc j) q)))
@@ -135,7 +135,7 @@ module _ (f : Pattern) (t : List ℕ) (stop : ℕ → ℕ) (from : ℕ) where
 
   part-branch : {k j : ℕ} {r : List ℕ} → Part k j r → List·Memᴰ r (branches k j (at r 0))
   unfolding branches
-  part-branch (end {j = j} {p = p} e h) = only-mem (and-eq-true-iff (fits j p) (leb from p) .1 (e, le-leb from p h)) (List·Memᴰ·head refl)
+  part-branch (end {j = j} {p = p} e h) = only-mem (and-eq-true-iff (stands j p) (leb from p) .1 (e, le-leb from p h)) (List·Memᴰ·head refl)
   part-branch (step {k = k} {j = j} {p = p} {r = r} e l h q) =
       only-mem e (Memᴰ·map (λ r. p ∷ r) (gather-mem (branches k (suc j)) (places-mem _ _ (at r 0) l (omega arith)) (part-branch q)))
 
@@ -145,11 +145,11 @@ module _ (f : Pattern) (t : List ℕ) (stop : ℕ → ℕ) (from : ℕ) where
   part-size (end e h) = refl
   part-size (step e l h q) = ap suc (part-size q)
 
-  pub part-fits : {k j : ℕ} {r : List ℕ} → Part k j r → (i : ℕ) → i ≤ k → fits (j + i) (at r i) ≡ true
-  part-fits (end {j = j} e h) zero l = let z : j + 0 ≡ j = omega arith in rw z e
-  part-fits (end e h) (suc i) l = absurd (omega arith)
-  part-fits (step {j = j} e a b q) zero l = let z : j + 0 ≡ j = omega arith in rw z e
-  part-fits (step {j = j} e a b q) (suc i) l = let z : j + suc i ≡ suc j + i = omega arith in rw z (part-fits q i (omega arith))
+  pub part-stands : {k j : ℕ} {r : List ℕ} → Part k j r → (i : ℕ) → i ≤ k → stands (j + i) (at r i) ≡ true
+  part-stands (end {j = j} e h) zero l = let z : j + 0 ≡ j = omega arith in rw z e
+  part-stands (end e h) (suc i) l = absurd (omega arith)
+  part-stands (step {j = j} e a b q) zero l = let z : j + 0 ≡ j = omega arith in rw z e
+  part-stands (step {j = j} e a b q) (suc i) l = let z : j + suc i ≡ suc j + i = omega arith in rw z (part-stands q i (omega arith))
 
   pub part-gap : {k j : ℕ} {r : List ℕ} → Part k j r → (i : ℕ) → i < k
       → (at r i + slotAt f (j + i + 1) .low + 1 ≤ at r (suc i)) × (at r (suc i) ≤ at r i + slotAt f (j + i + 1) .high + 1)
@@ -161,7 +161,7 @@ module _ (f : Pattern) (t : List ℕ) (stop : ℕ → ℕ) (from : ℕ) where
   part-last (end e h) = h
   part-last (step e a b q) = part-last q
 
-  pub part-of : (k j : ℕ) (r : List ℕ) → length r ≡ suc k → ((i : ℕ) → i ≤ k → fits (j + i) (at r i) ≡ true)
+  pub part-of : (k j : ℕ) (r : List ℕ) → length r ≡ suc k → ((i : ℕ) → i ≤ k → stands (j + i) (at r i) ≡ true)
       → ((i : ℕ) → i < k → (at r i + slotAt f (j + i + 1) .low + 1 ≤ at r (suc i)) × (at r (suc i) ≤ at r i + slotAt f (j + i + 1) .high + 1))
       → from ≤ at r k → Part k j r
   part-of zero j [] e w g l = absurd (omega arith)
@@ -181,43 +181,43 @@ module _ (f : Pattern) (t : List ℕ) (stop : ℕ → ℕ) (from : ℕ) where
 -- ---- all occurrences, depth first
 
 -- the stop of each slot, and the least last place, for each first place
-module _ (f : Pattern) (t : List ℕ) (stops : ℕ → ℕ → ℕ) (froms : ℕ → ℕ) where
+module _ (f : Pattern) (v : View) (stops : ℕ → ℕ → ℕ) (froms : ℕ → ℕ) where
   unfoldable pub tree : ℕ → List (List ℕ)
-  tree p = branches f t (stops p) (froms p) (f .count - 1) 0 p
+  tree p = branches f v (stops p) (froms p) (f .count - 1) 0 p
 
   unfoldable pub forest : List (List ℕ)
-  forest = gather tree (places 1 (length t))
+  forest = gather tree (places 1 (v .places))
 
   -- the two say of each row whether it is an occurrence
   pub record Covers : Type 0 where
-    pub into : (r : List ℕ) → Occurs f t r → Part f t (stops (at r 0)) (froms (at r 0)) (f .count - 1) 0 r × (1 ≤ at r 0) × (at r 0 ≤ length t)
-    pub back : (r : List ℕ) → Part f t (stops (at r 0)) (froms (at r 0)) (f .count - 1) 0 r → 1 ≤ at r 0 → at r 0 ≤ length t → Occurs f t r
+    pub into : (r : List ℕ) → OccursIn f v r → Part f v (stops (at r 0)) (froms (at r 0)) (f .count - 1) 0 r × (1 ≤ at r 0) × (at r 0 ≤ v .places)
+    pub back : (r : List ℕ) → Part f v (stops (at r 0)) (froms (at r 0)) (f .count - 1) 0 r → 1 ≤ at r 0 → at r 0 ≤ v .places → OccursIn f v r
 
   module _ (covers : Covers) where
     tree-start : (p : ℕ) → Every (Starts p) (tree p)
     unfolding tree
-    tree-start p = branches-start f t (stops p) (froms p) (f .count - 1) 0 p
+    tree-start p = branches-start f v (stops p) (froms p) (f .count - 1) 0 p
 
     forest-lex : Pairwise Lex forest
     unfolding forest tree
-    forest-lex = gather-lex tree tree-start (λ p. branches-lex f t (stops p) (froms p) (f .count - 1) 0 p) (places-rise 1 (length t))
+    forest-lex = gather-lex tree tree-start (λ p. branches-lex f v (stops p) (froms p) (f .count - 1) 0 p) (places-rise 1 (v .places))
 
-    tree-occurs : (p : ℕ) → (1 ≤ p) × (p < 1 + length t) → Every (Occurs f t) (tree p)
+    tree-occurs : (p : ℕ) → (1 ≤ p) × (p < 1 + v .places) → Every (OccursIn f v) (tree p)
     unfolding tree
     tree-occurs p h =
         every-map
         (λ r b. let e = starts-at (b .1) in covers .back r (rw e (b .0)) (omega arith) (omega arith))
-        (every-both (branches-part f t (stops p) (froms p) (f .count - 1) 0 p) (tree-start p))
+        (every-both (branches-part f v (stops p) (froms p) (f .count - 1) 0 p) (tree-start p))
 
-    pub occurrences-forest : occurrences f t ≡ forest
+    pub occurrences-forest : occurrencesIn f v ≡ forest
     unfolding forest tree
     occurrences-forest =
-        lex-unique (occurrences-lex f t) forest-lex
-        (λ r m. let o = covers .into r (occurrences-iff f t r .0 m) in gather-mem tree (places-mem 1 (length t) (at r 0) (o .1) (omega arith)) (part-branch f t (stops (at r 0)) (froms (at r 0)) (o .0)))
-        (λ r m. occurrences-iff f t r .1 (every-mem (gather-every tree tree-occurs (places-between 1 (length t))) m))
+        lex-unique (occurrences-lex f v) forest-lex
+        (λ r m. let o = covers .into r (occurrences-iff f v r .0 m) in gather-mem tree (places-mem 1 (v .places) (at r 0) (o .1) (omega arith)) (part-branch f v (stops (at r 0)) (froms (at r 0)) (o .0)))
+        (λ r m. occurrences-iff f v r .1 (every-mem (gather-every tree tree-occurs (places-between 1 (v .places))) m))
 
-    pub count-forest : length (occurrences f t) ≡ total (length t) (λ p. ways f t (stops p) (froms p) (f .count - 1) 0 p) 1
+    pub count-forest : length (occurrencesIn f v) ≡ total (v .places) (λ p. ways f v (stops p) (froms p) (f .count - 1) 0 p) 1
     unfolding forest tree
     count-forest =
         ap length occurrences-forest
-        ∙ length-gather tree (λ p. ways f t (stops p) (froms p) (f .count - 1) 0 p) (length t) 1 (λ p. length-branches f t (stops p) (froms p) (f .count - 1) 0 p)
+        ∙ length-gather tree (λ p. ways f v (stops p) (froms p) (f .count - 1) 0 p) (v .places) 1 (λ p. length-branches f v (stops p) (froms p) (f .count - 1) 0 p)

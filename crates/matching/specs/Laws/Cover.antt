@@ -8,11 +8,11 @@ use lib.ListN.{length}
 use lib.Dec.{ltb}
 use borrow.Author.Tests.{ltb-true, lt-ltb}
 use Rattle.pattern.specs.declared.Pattern.{Pattern}
-use Rattle.matching.specs.Occurrence.{Occurs, at, wordAt}
-use Rattle.pattern.specs.Patterns.{takes, slotAt}
-use Rattle.matching.specs.Laws.Branches.{fits, Part, part-size, part-fits, part-gap, part-last, part-of, Covers, forest, occurrences-forest, ways, count-forest}
+use Rattle.matching.specs.Occurrence.{View, OccursIn, at}
+use Rattle.pattern.specs.Patterns.{slotAt}
+use Rattle.matching.specs.Laws.Branches.{stands, Part, part-size, part-stands, part-gap, part-last, part-of, Covers, forest, occurrences-forest, ways, count-forest}
 use Rattle.matching.specs.Laws.Sums.{total}
-use Rattle.matching.specs.Occurrences.{occurrences}
+use Rattle.matching.specs.Occurrences.{occurrencesIn}
 
 module _ (f : Pattern) where
   -- the least and the largest distance from the first place to the place at slot k
@@ -28,15 +28,15 @@ module _ (f : Pattern) where
   unfoldable pub width : ℕ
   width = min (f .most) (far (f .count - 1) + 1)
 
-  unfoldable pub limit : List ℕ → ℕ → ℕ → ℕ
-  limit t p j = p + min (min width (length t + 1 - p)) (far j + 1)
+  unfoldable pub limit : View → ℕ → ℕ → ℕ
+  limit v p j = p + min (min width (v .places + 1 - p)) (far j + 1)
 
   unfoldable pub least : ℕ → ℕ
   least p = p + f .least - 1
 
   -- and their number
-  unfoldable pub starting : List ℕ → ℕ → ℕ
-  starting t p = ways f t (limit t p) (least p) (f .count - 1) 0 p
+  unfoldable pub starting : View → ℕ → ℕ
+  starting v p = ways f v (limit v p) (least p) (f .count - 1) 0 p
 
   -- the gaps of a row, slot by slot
   abbrev pub Gaps : List ℕ → ℕ → Type 0
@@ -57,66 +57,66 @@ module _ (f : Pattern) where
   gaps-rise r k g (suc d) i h = let e : i + suc d ≡ suc (i + d) = omega arith in
       rw e (omega (arith, gaps-rise r k g d i (omega arith), g (i + d) (omega arith)))
 
-  module _ (t : List ℕ) (some : 1 ≤ f .count) where
-    part-gaps : {stop : ℕ → ℕ} {from : ℕ} {r : List ℕ} → Part f t stop from (f .count - 1) 0 r → Gaps r (f .count - 1)
-    part-gaps {stop} {from} q i h = let e : 0 + i + 1 ≡ suc i = omega arith in rw e at (part-gap f t stop from q i h)
+  module _ (v : View) (some : 1 ≤ f .count) where
+    part-gaps : {stop : ℕ → ℕ} {from : ℕ} {r : List ℕ} → Part f v stop from (f .count - 1) 0 r → Gaps r (f .count - 1)
+    part-gaps {stop} {from} q i h = let e : 0 + i + 1 ≡ suc i = omega arith in rw e at (part-gap f v stop from q i h)
 
-    part-below : {stop : ℕ → ℕ} {from : ℕ} {r : List ℕ} → Part f t stop from (f .count - 1) 0 r → (i : ℕ) → i ≤ f .count - 1 → (at r i < stop i) × (takes (slotAt f i) (wordAt t (at r i)) ≡ true)
-    unfolding fits
+    part-below : {stop : ℕ → ℕ} {from : ℕ} {r : List ℕ} → Part f v stop from (f .count - 1) 0 r → (i : ℕ) → i ≤ f .count - 1 → (at r i < stop i) × (v .fits i (at r i) ≡ true)
+    unfolding stands
     part-below {stop} {from} {r} q i h =
         let e : 0 + i ≡ i = omega arith in
-        let b = and-eq-true-iff (ltb (at r i) (stop i)) (takes (slotAt f i) (wordAt t (at r i))) .0 (rw e at (part-fits f t stop from q i h)) in
+        let b = and-eq-true-iff (ltb (at r i) (stop i)) (v .fits i (at r i)) .0 (rw e at (part-stands f v stop from q i h)) in
         (ltb-true _ _ (b .0), b .1)
 
     -- an occurrence, of the stop and the least last place
-    into : (stop : ℕ → ℕ) (from : ℕ) (r : List ℕ) → Occurs f t r → ((i : ℕ) → i ≤ f .count - 1 → at r i < stop i) → from ≤ at r (f .count - 1)
-        → Part f t stop from (f .count - 1) 0 r × (1 ≤ at r 0) × (at r 0 ≤ length t)
-    unfolding fits
+    into : (stop : ℕ → ℕ) (from : ℕ) (r : List ℕ) → OccursIn f v r → ((i : ℕ) → i ≤ f .count - 1 → at r i < stop i) → from ≤ at r (f .count - 1)
+        → Part f v stop from (f .count - 1) 0 r × (1 ≤ at r 0) × (at r 0 ≤ v .places)
+    unfolding stands
     into stop from r o below last = (
-      part-of f t stop from (f .count - 1) 0 r (omega (arith, o .size))
+      part-of f v stop from (f .count - 1) 0 r (omega (arith, o .size))
           (λ i h. let e : 0 + i ≡ i = omega arith in
-          rw e (and-eq-true-iff (ltb (at r i) (stop i)) (takes (slotAt f i) (wordAt t (at r i))) .1 (lt-ltb _ _ (below i h), o .word i (omega arith))))
+          rw e (and-eq-true-iff (ltb (at r i) (stop i)) (v .fits i (at r i)) .1 (lt-ltb _ _ (below i h), o .fit i (omega arith))))
           (λ i h. let e : 0 + i + 1 ≡ i + 1 = omega arith in let d : suc i ≡ i + 1 = omega arith in rw (e, d) (o .gap i (omega arith)))
           last,
       o .inside 0 (omega arith) .0,
       o .inside 0 (omega arith) .1,
     )
 
-    occurs-gaps : {r : List ℕ} → Occurs f t r → Gaps r (f .count - 1)
+    occurs-gaps : {r : List ℕ} → OccursIn f v r → Gaps r (f .count - 1)
     occurs-gaps o i h = let d : suc i ≡ i + 1 = omega arith in rw d (o .gap i (omega arith))
 
-    back : {stop : ℕ → ℕ} {from : ℕ} (r : List ℕ) → Part f t stop from (f .count - 1) 0 r → 1 ≤ at r 0 → ((i : ℕ) → stop i ≤ length t + 1)
-        → (at r 0 + f .least ≤ at r (f .count - 1) + 1) × (at r (f .count - 1) + 1 ≤ at r 0 + f .most) → Occurs f t r
+    back : {stop : ℕ → ℕ} {from : ℕ} (r : List ℕ) → Part f v stop from (f .count - 1) 0 r → 1 ≤ at r 0 → ((i : ℕ) → stop i ≤ v .places + 1)
+        → (at r 0 + f .least ≤ at r (f .count - 1) + 1) × (at r (f .count - 1) + 1 ≤ at r 0 + f .most) → OccursIn f v r
     back {stop} {from} r q one short span =
         let g = part-gaps q in
         let w = part-below q in
         record {
-          size = omega (arith, part-size f t stop from q);
+          size = omega (arith, part-size f v stop from q);
           inside = λ j h. (omega (arith, gaps-near r (f .count - 1) g j (omega arith)), omega (arith, w j (omega arith) .0, short j));
-          word = λ j h. w j (omega arith) .1;
+          fit = λ j h. w j (omega arith) .1;
           gap = λ j h. let e : j + 1 ≡ suc j = omega arith in rw e (g j (omega arith));
           span = span;
         }
 
     -- any pattern: each first place with its own stop
-    pub covers-each : 1 ≤ f .least → Covers f t (limit t) least
+    pub covers-each : 1 ≤ f .least → Covers f v (limit v) least
     unfolding width limit least
     covers-each h = record {
       into = λ r o. let g = occurs-gaps o in let s = o .span in
-          into (limit t (at r 0)) (least (at r 0)) r o
+          into (limit v (at r 0)) (least (at r 0)) r o
           (λ i l. let d : i + (f .count - 1 - i) ≡ f .count - 1 = omega arith in
           omega (arith, o .inside i (omega arith), rw d at (gaps-rise r (f .count - 1) g (f .count - 1 - i) i (omega arith)), gaps-far r (f .count - 1) g (f .count - 1) (omega arith), gaps-far r (f .count - 1) g i l))
           (omega arith);
       back = λ r q one inside.
-          let last = part-last f t (limit t (at r 0)) (least (at r 0)) q in
+          let last = part-last f v (limit v (at r 0)) (least (at r 0)) q in
           let below = part-below q (f .count - 1) (omega arith) .0 in
           back r q one (λ i. omega arith) (omega arith, omega arith);
     }
 
     -- a pattern whose span limits say nothing: one stop
-    pub covers-all : f .least ≤ near (f .count - 1) + 1 → min (far (f .count - 1) + 1) (length t) ≤ f .most → Covers f t (λ p j. length t + 1) (λ p. 0)
+    pub covers-all : f .least ≤ near (f .count - 1) + 1 → min (far (f .count - 1) + 1) (v .places) ≤ f .most → Covers f v (λ p j. v .places + 1) (λ p. 0)
     covers-all l m = record {
-      into = λ r o. into (λ j. length t + 1) 0 r o (λ i h. omega (arith, o .inside i (omega arith))) (omega arith);
+      into = λ r o. into (λ j. v .places + 1) 0 r o (λ i h. omega (arith, o .inside i (omega arith))) (omega arith);
       back = λ r q one inside. let g = part-gaps q in
           back r q one (λ i. omega arith)
           (omega (arith, gaps-near r (f .count - 1) g (f .count - 1) (omega arith)), omega (arith, gaps-far r (f .count - 1) g (f .count - 1) (omega arith), part-below q (f .count - 1) (omega arith) .0));
@@ -125,13 +125,13 @@ module _ (f : Pattern) where
     -- ---- all occurrences, and their number
 
     -- every occurrence, depth first: this computes
-    pub occurrences-each : 1 ≤ f .least → occurrences f t ≡ forest f t (limit t) least
-    occurrences-each h = occurrences-forest f t (limit t) least (covers-each h)
+    pub occurrences-each : 1 ≤ f .least → occurrencesIn f v ≡ forest f v (limit v) least
+    occurrences-each h = occurrences-forest f v (limit v) least (covers-each h)
 
-    pub tally-each : 1 ≤ f .least → length (occurrences f t) ≡ total (length t) (starting t) 1
+    pub tally-each : 1 ≤ f .least → length (occurrencesIn f v) ≡ total (v .places) (starting v) 1
     unfolding starting
-    tally-each h = count-forest f t (limit t) least (covers-each h)
+    tally-each h = count-forest f v (limit v) least (covers-each h)
 
-    pub tally-all : f .least ≤ near (f .count - 1) + 1 → min (far (f .count - 1) + 1) (length t) ≤ f .most
-        → length (occurrences f t) ≡ total (length t) (ways f t (λ j. length t + 1) 0 (f .count - 1) 0) 1
-    tally-all l m = count-forest f t (λ p j. length t + 1) (λ p. 0) (covers-all l m)
+    pub tally-all : f .least ≤ near (f .count - 1) + 1 → min (far (f .count - 1) + 1) (v .places) ≤ f .most
+        → length (occurrencesIn f v) ≡ total (v .places) (ways f v (λ j. v .places + 1) 0 (f .count - 1) 0) 1
+    tally-all l m = count-forest f v (λ p j. v .places + 1) (λ p. 0) (covers-all l m)

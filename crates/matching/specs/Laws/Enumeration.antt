@@ -7,9 +7,9 @@ use mathlib.Core.Logic.{_↔_}
 use mathlib.Core.List.{List, [], _∷_, map, List·Memᴰ, List·Memᴰ·head, List·Memᴰ·tail, Memᴰ·append-left, Memᴰ·append-right, Memᴰ·map}
 use lib.ListN.{length}
 use Rattle.pattern.specs.declared.Pattern.{Pattern}
-use Rattle.matching.specs.Occurrence.{Occurs, at}
+use Rattle.matching.specs.Occurrence.{View, OccursIn, at}
 use Rattle.matching.specs.Collections.{Every, Pairwise, none, more}
-use Rattle.matching.specs.Occurrences.{occurs, places, extend, rows, Lex, here, after, occurrences}
+use Rattle.matching.specs.Occurrences.{occursIn, places, extend, rows, Lex, here, after, occurrencesIn}
 use Rattle.matching.specs.Laws.Collections.{every-of, every-map, every-mem, every-append, pairwise-append, map-every, map-pairwise, select-every, select-pairwise, select-mem}
 use Rattle.matching.specs.Laws.Tests.{occurs-iff}
 
@@ -61,17 +61,17 @@ rows-lex (suc m) n = extend-lex (places-rise 1 n) (rows-lex m n)
 
 -- ---- all occurrences: a row is a member exactly if it occurs, and the list rises strictly, so that each row stands there once
 
-pub occurrences-occur : (f : Pattern) (t : List ℕ) → Every (Occurs f t) (occurrences f t)
-unfolding occurrences
-occurrences-occur f t = select-every (occurs f t) (λ r. occurs-iff f t r .0) (rows (f .count) (length t))
+pub occurrences-occur : (f : Pattern) (v : View) → Every (OccursIn f v) (occurrencesIn f v)
+unfolding occurrencesIn
+occurrences-occur f v = select-every (occursIn f v) (λ r. occurs-iff f v r .0) (rows (f .count) (v .places))
 
-pub occurrences-iff : (f : Pattern) (t r : List ℕ) → List·Memᴰ r (occurrences f t) ↔ Occurs f t r
-unfolding occurrences
-occurrences-iff f t r = (
-  every-mem (occurrences-occur f t),
-  λ o. select-mem (occurs f t) (rows-mem (f .count) (length t) r (o .size) (o .inside)) (occurs-iff f t r .1 o),
+pub occurrences-iff : (f : Pattern) (v : View) (r : List ℕ) → List·Memᴰ r (occurrencesIn f v) ↔ OccursIn f v r
+unfolding occurrencesIn
+occurrences-iff f v r = (
+  every-mem (occurrences-occur f v),
+  λ o. select-mem (occursIn f v) (rows-mem (f .count) (v .places) r (o .size) (o .inside)) (occurs-iff f v r .1 o),
 )
 
-pub occurrences-lex : (f : Pattern) (t : List ℕ) → Pairwise Lex (occurrences f t)
-unfolding occurrences
-occurrences-lex f t = select-pairwise (occurs f t) (rows-lex (f .count) (length t))
+pub occurrences-lex : (f : Pattern) (v : View) → Pairwise Lex (occurrencesIn f v)
+unfolding occurrencesIn
+occurrences-lex f v = select-pairwise (occursIn f v) (rows-lex (f .count) (v .places))

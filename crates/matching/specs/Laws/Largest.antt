@@ -1,4 +1,4 @@
--- Demand 3 holds of the front and back lists of every accepted pattern and text, whatever its span limits.
+-- Demand 3 holds of the front and back lists of every accepted pattern, in any view of at most 20,000 places, whatever the span limits.
 use Prim.Native.Nat.{ℕ}
 use native.Mathlib.Omega.{arith}
 use mathlib.Core.Path.{_≡_, ap, _∙_}
@@ -6,10 +6,10 @@ use mathlib.Core.List.{List, []}
 use lib.ListN.{length, getD, length-reverse}
 use Rattle.pattern.specs.declared.Pattern.{Pattern}
 use Rattle.pattern.specs.Accepted.{AcceptedInput}
-use Rattle.matching.specs.Occurrence.{Occurs, Apart}
+use Rattle.matching.specs.Occurrence.{View, OccursIn, Apart}
 use Rattle.matching.specs.Rows.{level, Before}
-use Rattle.matching.specs.Lists.{leftmost, rightmost}
-use Rattle.matching.specs.Largest.{Largest}
+use Rattle.matching.specs.Lists.{leftmostIn, rightmostIn}
+use Rattle.matching.specs.Largest.{LargestIn}
 use Rattle.matching.specs.Laws.Collections.{every-reverse, pairwise-map, pairwise-reverse, getD-reverse}
 use Rattle.matching.specs.Laws.Rows.{at-level}
 use Rattle.matching.specs.Laws.Lattice.{occurs-sublattice}
@@ -21,26 +21,26 @@ apart-sym : (m : ℕ) (r s : List ℕ) → Apart m r s → Apart m s r
 unfolding Apart
 apart-sym m r s a j h e = a j h (cc)
 
-module _ {f : Pattern} {t : List ℕ} (ok : AcceptedInput f (length t)) where
-  bounded : BoundedLattice (f .count) (Occurs f t) (level (f .count) 0) (level (f .count) 65535)
+module _ {f : Pattern} {v : View} (ok : AcceptedInput f (v .places)) where
+  bounded : BoundedLattice (f .count) (OccursIn f v) (level (f .count) 0) (level (f .count) 65535)
   unfolding Before
   bounded = record {
-    lattice = occurs-sublattice f t;
+    lattice = occurs-sublattice f v;
     after-first = λ r o j h. omega (arith, o .inside j h, at-level (f .count) 0 j h);
     before-last = λ r o j h. omega (arith, o .inside j h, at-level (f .count) 65535 j h, ok .short);
   }
 
-  pub largest : Largest f t (leftmost f t) (rightmost f t)
+  pub largest : LargestIn f v (leftmostIn f v) (rightmostIn f v)
   largest =
       let some = ok .pattern .some in
       let m = f .count in
-      let F = leftmost-front f t some in
-      let B = fromLast-back f t some in
-      let back-length : length (rightmost f t) ≡ length (fromLast f t some) = ap length (rightmost-fromLast f t some) ∙ length-reverse (fromLast f t some) in
+      let F = leftmost-front f v some in
+      let B = fromLast-back f v some in
+      let back-length : length (rightmostIn f v) ≡ length (fromLast f v some) = ap length (rightmost-fromLast f v some) ∙ length-reverse (fromLast f v some) in
       record {
         front = record { occur = greedy-hits (forwards m) F; apart = greedy-apart (forwards m) F };
         back =
-            rw (rightmost-fromLast f t some)
+            rw (rightmost-fromLast f v some)
             record {
               occur = every-reverse (greedy-hits (backwards m) B);
               apart = pairwise-reverse (pairwise-map (λ r s a. apart-sym m r s a) (greedy-apart (backwards m) B));
@@ -50,7 +50,7 @@ module _ {f : Pattern} {t : List ℕ} (ok : AcceptedInput f (length t)) where
         occur = λ H n. rising-hits bounded (n .occur) (n .apart);
         above = λ H n. forward-earliest bounded (n .occur) (n .apart) F;
         below = λ H n i j k e e′.
-            let q : getD (rightmost f t) j [] ≡ getD (fromLast f t some) k [] =
-            ap (λ (R : List (List ℕ)). getD R j []) (rightmost-fromLast f t some) ∙ getD-reverse (fromLast f t some) [] k j (omega arith) in
+            let q : getD (rightmostIn f v) j [] ≡ getD (fromLast f v some) k [] =
+            ap (λ (R : List (List ℕ)). getD R j []) (rightmost-fromLast f v some) ∙ getD-reverse (fromLast f v some) [] k j (omega arith) in
             rw q (backward-latest bounded (n .occur) (n .apart) B i k e);
       }

@@ -7,8 +7,8 @@ use mathlib.Core.List.{List}
 use mathlib.Core.Bool.{true}
 use lib.ListN.{length}
 use Rattle.pattern.specs.declared.Pattern.{Pattern}
-use Rattle.matching.specs.Occurrence.{Occurs, at, wordAt}
-use Rattle.pattern.specs.Patterns.{takes, slotAt}
+use Rattle.matching.specs.Occurrence.{View, OccursIn, at}
+use Rattle.pattern.specs.Patterns.{slotAt}
 use Rattle.matching.specs.Rows.{meet, join}
 use Rattle.matching.specs.Laws.Rows.{Sublattice, at-meet, at-join, length-meet, length-join}
 
@@ -58,17 +58,17 @@ between-sublattice P i j = record {
 
 -- ---- an occurrence: all of them
 
-module _ (f : Pattern) (t : List ℕ) where
+module _ (f : Pattern) (v : View) where
   -- `mix` stands for `meet` and for `join`
   occurs-mix : (mix : List ℕ → List ℕ → List ℕ) → ((P : List ℕ → Type 0) → Sublattice P → (r s : List ℕ) → P r → P s → P (mix r s))
-      → (r s : List ℕ) → Occurs f t r → Occurs f t s → Occurs f t (mix r s)
+      → (r s : List ℕ) → OccursIn f v r → OccursIn f v s → OccursIn f v (mix r s)
   occurs-mix mix closed r s o o′ = record {
     size = closed _ (size-sublattice (f .count)) r s (o .size) (o′ .size);
-    inside = λ j h. closed _ (place-sublattice (λ p. (1 ≤ p) × (p ≤ length t)) j) r s (o .inside j h) (o′ .inside j h);
-    word = λ j h. closed _ (place-sublattice (λ p. takes (slotAt f j) (wordAt t p) ≡ true) j) r s (o .word j h) (o′ .word j h);
+    inside = λ j h. closed _ (place-sublattice (λ p. (1 ≤ p) × (p ≤ v .places)) j) r s (o .inside j h) (o′ .inside j h);
+    fit = λ j h. closed _ (place-sublattice (λ p. v .fits j p ≡ true) j) r s (o .fit j h) (o′ .fit j h);
     gap = λ j h. closed _ (gap-sublattice j (j + 1) (slotAt f (j + 1) .low) (slotAt f (j + 1) .high)) r s (o .gap j h) (o′ .gap j h);
     span = closed _ (span-sublattice 0 (f .count - 1) (f .least) (f .most)) r s (o .span) (o′ .span);
   }
 
-  pub occurs-sublattice : Sublattice (Occurs f t)
+  pub occurs-sublattice : Sublattice (OccursIn f v)
   occurs-sublattice = record { meets = occurs-mix meet (λ P c. c .meets); joins = occurs-mix join (λ P c. c .joins) }

@@ -14,13 +14,13 @@ use Rattle.pattern.specs.Laws.Accepting.{input-accepted, then-accepted, refuse-
 use Rattle.matching.specs.Answers.{rowVerdict}
 use Rattle.matching.specs.Steps.Settling.{Ready}
 
-pub ready : (f : Pattern) (t : List ℕ) → inputVerdict f (length t) ≡ Accepted → Ready f t
-ready f t e =
-    let a = input-accepted f (length t) .0 e in
+pub ready : (f : Pattern) (n : ℕ) → inputVerdict f n ≡ Accepted → Ready f n
+ready f n e =
+    let a = input-accepted f n .0 e in
     record { some = a .pattern .some; few = a .pattern .few; least = a .pattern .least; short = a .short }
 
 pub record RowAccepted (f : Pattern) (t row : List ℕ) : Type 0 where
-  pub ready : Ready f t
+  pub ready : Ready f (length t)
   pub size : length row ≡ f .count
 
 pub row-accepted : {f : Pattern} {t row : List ℕ} → rowVerdict f t row ≡ Accepted → RowAccepted f t row
@@ -28,6 +28,6 @@ unfolding rowVerdict
 row-accepted {f} {t} {row} e =
     let b = then-accepted (inputVerdict f (length t)) (refuse (not (eqb (length row) (f .count))) RowLength Accepted) e in
     record {
-      ready = ready f t (b .0);
+      ready = ready f (length t) (b .0);
       size = eqb-true (length row) (f .count) (not-false (eqb (length row) (f .count)) (refuse-accepted (not (eqb (length row) (f .count))) RowLength Accepted (b .1) .0));
     }

@@ -9,8 +9,8 @@ use mathlib.Core.List.{List}
 use lib.Dec.{leb, ltb, eqb}
 use borrow.Author.Tests.{leb-true, le-leb, ltb-true, lt-ltb, eqb-true, eq-eqb}
 use Rattle.pattern.specs.declared.Pattern.{Pattern}
-use Rattle.matching.specs.Occurrence.{Occurs}
-use Rattle.matching.specs.Occurrences.{within, each, occurs}
+use Rattle.matching.specs.Occurrence.{View, OccursIn}
+use Rattle.matching.specs.Occurrences.{within, each, occursIn}
 use Rattle.matching.specs.Rows.{Before, before}
 
 pub within-iff : (low x high : ℕ) → (within low x high ≡ true) ↔ ((low ≤ x) × (x ≤ high))
@@ -41,12 +41,12 @@ each-same (suc n) p q h = rw (h n (omega arith), each-same n p q (λ j l. h j (o
 
 ruleset tests = (and-eq-true-iff, within-iff, eqb-iff, each-iff)
 
-pub occurs-iff : (f : Pattern) (t r : List ℕ) → (occurs f t r ≡ true) ↔ Occurs f t r
-unfolding occurs
-occurs-iff f t r = (
+pub occurs-iff : (f : Pattern) (v : View) (r : List ℕ) → (occursIn f v r ≡ true) ↔ OccursIn f v r
+unfolding occursIn
+occurs-iff f v r = (
   λ e. let o = simp tests at e in
-      record { size = o .0 .0 .0 .0; inside = o .0 .0 .0 .1; word = o .0 .0 .1; gap = λ j h. o .0 .1 j (omega arith); span = o .1 },
-  λ o. simp tests ((((o .size, o .inside), o .word), λ j h. o .gap j (omega arith)), o .span),
+      record { size = o .0 .0 .0 .0; inside = o .0 .0 .0 .1; fit = o .0 .0 .1; gap = λ j h. o .0 .1 j (omega arith); span = o .1 },
+  λ o. simp tests ((((o .size, o .inside), o .fit), λ j h. o .gap j (omega arith)), o .span),
 )
 
 ltb-iff : (a b : ℕ) → (ltb a b ≡ true) ↔ (a < b)

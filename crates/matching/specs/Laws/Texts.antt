@@ -9,16 +9,16 @@ use lib.Dec.{lit≤}
 use Rattle.pattern.specs.declared.Pattern.{Pattern}
 use Rattle.pattern.specs.Patterns.{member, takes}
 use Rattle.pattern.specs.Accepted.{Accepted}
-use Rattle.matching.specs.Occurrence.{Occurs}
+use Rattle.matching.specs.Occurrence.{plain, Occurs}
 use Rattle.matching.specs.Collections.{keep, select}
-use Rattle.matching.specs.Occurrences.{within, each, occurs, places, occurrences}
+use Rattle.matching.specs.Occurrences.{within, each, occursIn, places, occurrences}
 use Rattle.matching.specs.Rows.{level, before, meet, join}
 use Rattle.matching.specs.Searches.{nearest, extreme, earliestOf, latestOf}
-use Rattle.matching.specs.Lists.{onward, follow, leftmost, rightmost}
+use Rattle.matching.specs.Lists.{onward, follow, leftmostIn, rightmostIn}
 use Rattle.matching.specs.Texts.{oneWord, patternOf, text-one, text-three, text-four, text-five, text-six, text-seven, text-eight, pattern-one, pattern-two, pattern-three, pattern-four, pattern-five, pattern-six, pattern-seven, pattern-eight, Results, Nothing, NineTexts}
 use Rattle.matching.specs.Laws.Tests.{occurs-iff}
 use Rattle.matching.specs.Laws.Sums.{gather}
-use Rattle.matching.specs.Laws.Branches.{only, fits, branches, tree, forest}
+use Rattle.matching.specs.Laws.Branches.{only, stands, branches, tree, forest}
 use Rattle.matching.specs.Laws.Cover.{far, width, limit, least, occurrences-each}
 use Rattle.matching.specs.Laws.Extremes.{earliest-none, latest-none}
 
@@ -28,7 +28,7 @@ module _ {f : Pattern} {t : List ℕ} {hits : List (List ℕ)} (found : occurren
       → follow (λ marks. earliestOf (f .count) hits marks) (length t) (level (f .count) 0) ≡ front
       → reverse (follow (λ marks. latestOf (f .count) hits marks) (length t) (level (f .count) 65535)) ≡ back
       → length front ≡ count → length hits ≡ tally → Results f t hits front back count tally
-  unfolding leftmost rightmost
+  unfolding leftmostIn rightmostIn
   results a b c d =
       let e = ap (λ (R : List (List ℕ)). follow (λ marks. earliestOf (f .count) R marks) (length t) (level (f .count) 0)) found ∙ a in
       record {
@@ -40,8 +40,8 @@ module _ {f : Pattern} {t : List ℕ} {hits : List (List ℕ)} (found : occurren
       }
 
 hits-one : occurrences pattern-one text-one ≡ (1 ∷ 3 ∷ 5 ∷ []) ∷ (5 ∷ 7 ∷ 8 ∷ []) ∷ (6 ∷ 7 ∷ 8 ∷ []) ∷ []
-unfolding pattern-one text-one patternOf oneWord forest tree gather places branches only fits takes member far width limit least
-hits-one = occurrences-each pattern-one text-one (lit≤ tt) (lit≤ tt)
+unfolding pattern-one text-one patternOf oneWord forest tree gather places branches only stands takes member far width limit least
+hits-one = occurrences-each pattern-one (plain pattern-one text-one) (lit≤ tt) (lit≤ tt)
 
 one : Results pattern-one text-one
     ((1 ∷ 3 ∷ 5 ∷ []) ∷ (5 ∷ 7 ∷ 8 ∷ []) ∷ (6 ∷ 7 ∷ 8 ∷ []) ∷ [])
@@ -52,8 +52,8 @@ unfolding pattern-one text-one patternOf oneWord follow onward earliestOf latest
 one = results hits-one refl refl refl refl
 
 hits-two : occurrences pattern-two text-one ≡ (1 ∷ 3 ∷ 5 ∷ []) ∷ (5 ∷ 7 ∷ 8 ∷ []) ∷ []
-unfolding pattern-two text-one patternOf oneWord forest tree gather places branches only fits takes member far width limit least
-hits-two = occurrences-each pattern-two text-one (lit≤ tt) (lit≤ tt)
+unfolding pattern-two text-one patternOf oneWord forest tree gather places branches only stands takes member far width limit least
+hits-two = occurrences-each pattern-two (plain pattern-two text-one) (lit≤ tt) (lit≤ tt)
 
 two : Results pattern-two text-one
     ((1 ∷ 3 ∷ 5 ∷ []) ∷ (5 ∷ 7 ∷ 8 ∷ []) ∷ [])
@@ -64,8 +64,8 @@ unfolding pattern-two text-one patternOf oneWord follow onward earliestOf latest
 two = results hits-two refl refl refl refl
 
 hits-three : occurrences pattern-three text-three ≡ (2 ∷ 3 ∷ 5 ∷ []) ∷ (2 ∷ 4 ∷ 5 ∷ []) ∷ (5 ∷ 6 ∷ 7 ∷ []) ∷ []
-unfolding pattern-three text-three patternOf oneWord forest tree gather places branches only fits takes member far width limit least
-hits-three = occurrences-each pattern-three text-three (lit≤ tt) (lit≤ tt)
+unfolding pattern-three text-three patternOf oneWord forest tree gather places branches only stands takes member far width limit least
+hits-three = occurrences-each pattern-three (plain pattern-three text-three) (lit≤ tt) (lit≤ tt)
 
 three : Results pattern-three text-three
     ((2 ∷ 3 ∷ 5 ∷ []) ∷ (2 ∷ 4 ∷ 5 ∷ []) ∷ (5 ∷ 6 ∷ 7 ∷ []) ∷ [])
@@ -76,8 +76,8 @@ unfolding pattern-three text-three patternOf oneWord follow onward earliestOf la
 three = results hits-three refl refl refl refl
 
 hits-four : occurrences pattern-four text-four ≡ (1 ∷ 3 ∷ 4 ∷ 8 ∷ []) ∷ (4 ∷ 5 ∷ 6 ∷ 8 ∷ []) ∷ (4 ∷ 5 ∷ 6 ∷ 9 ∷ []) ∷ (4 ∷ 5 ∷ 7 ∷ 9 ∷ []) ∷ []
-unfolding pattern-four text-four patternOf oneWord forest tree gather places branches only fits takes member far width limit least
-hits-four = occurrences-each pattern-four text-four (lit≤ tt) (lit≤ tt)
+unfolding pattern-four text-four patternOf oneWord forest tree gather places branches only stands takes member far width limit least
+hits-four = occurrences-each pattern-four (plain pattern-four text-four) (lit≤ tt) (lit≤ tt)
 
 four : Results pattern-four text-four
     ((1 ∷ 3 ∷ 4 ∷ 8 ∷ []) ∷ (4 ∷ 5 ∷ 6 ∷ 8 ∷ []) ∷ (4 ∷ 5 ∷ 6 ∷ 9 ∷ []) ∷ (4 ∷ 5 ∷ 7 ∷ 9 ∷ []) ∷ [])
@@ -88,8 +88,8 @@ unfolding pattern-four text-four patternOf oneWord follow onward earliestOf late
 four = results hits-four refl refl refl refl
 
 hits-five : occurrences pattern-five text-five ≡ (1 ∷ 2 ∷ 5 ∷ 7 ∷ []) ∷ (1 ∷ 4 ∷ 5 ∷ 7 ∷ []) ∷ (3 ∷ 4 ∷ 5 ∷ 7 ∷ []) ∷ (3 ∷ 6 ∷ 8 ∷ 9 ∷ []) ∷ (7 ∷ 10 ∷ 11 ∷ 12 ∷ []) ∷ (9 ∷ 10 ∷ 11 ∷ 12 ∷ []) ∷ (12 ∷ 13 ∷ 15 ∷ 16 ∷ []) ∷ (12 ∷ 14 ∷ 15 ∷ 16 ∷ []) ∷ []
-unfolding pattern-five text-five patternOf oneWord forest tree gather places branches only fits takes member far width limit least
-hits-five = occurrences-each pattern-five text-five (lit≤ tt) (lit≤ tt)
+unfolding pattern-five text-five patternOf oneWord forest tree gather places branches only stands takes member far width limit least
+hits-five = occurrences-each pattern-five (plain pattern-five text-five) (lit≤ tt) (lit≤ tt)
 
 five : Results pattern-five text-five
     ((1 ∷ 2 ∷ 5 ∷ 7 ∷ []) ∷ (1 ∷ 4 ∷ 5 ∷ 7 ∷ []) ∷ (3 ∷ 4 ∷ 5 ∷ 7 ∷ []) ∷ (3 ∷ 6 ∷ 8 ∷ 9 ∷ []) ∷ (7 ∷ 10 ∷ 11 ∷ 12 ∷ []) ∷ (9 ∷ 10 ∷ 11 ∷ 12 ∷ []) ∷ (12 ∷ 13 ∷ 15 ∷ 16 ∷ []) ∷ (12 ∷ 14 ∷ 15 ∷ 16 ∷ []) ∷ [])
@@ -100,8 +100,8 @@ unfolding pattern-five text-five patternOf oneWord follow onward earliestOf late
 five = results hits-five refl refl refl refl
 
 hits-six : occurrences pattern-six text-six ≡ (1 ∷ 2 ∷ 4 ∷ []) ∷ (1 ∷ 2 ∷ 6 ∷ []) ∷ (1 ∷ 3 ∷ 6 ∷ []) ∷ (1 ∷ 5 ∷ 8 ∷ []) ∷ (1 ∷ 5 ∷ 9 ∷ []) ∷ []
-unfolding pattern-six text-six patternOf oneWord forest tree gather places branches only fits takes member far width limit least
-hits-six = occurrences-each pattern-six text-six (lit≤ tt) (lit≤ tt)
+unfolding pattern-six text-six patternOf oneWord forest tree gather places branches only stands takes member far width limit least
+hits-six = occurrences-each pattern-six (plain pattern-six text-six) (lit≤ tt) (lit≤ tt)
 
 six : Results pattern-six text-six
     ((1 ∷ 2 ∷ 4 ∷ []) ∷ (1 ∷ 2 ∷ 6 ∷ []) ∷ (1 ∷ 3 ∷ 6 ∷ []) ∷ (1 ∷ 5 ∷ 8 ∷ []) ∷ (1 ∷ 5 ∷ 9 ∷ []) ∷ [])
@@ -112,8 +112,8 @@ unfolding pattern-six text-six patternOf oneWord follow onward earliestOf latest
 six = results hits-six refl refl refl refl
 
 hits-seven : occurrences pattern-seven text-seven ≡ (2 ∷ 3 ∷ 5 ∷ []) ∷ []
-unfolding pattern-seven text-seven patternOf oneWord forest tree gather places branches only fits takes member far width limit least
-hits-seven = occurrences-each pattern-seven text-seven (lit≤ tt) (lit≤ tt)
+unfolding pattern-seven text-seven patternOf oneWord forest tree gather places branches only stands takes member far width limit least
+hits-seven = occurrences-each pattern-seven (plain pattern-seven text-seven) (lit≤ tt) (lit≤ tt)
 
 seven : Results pattern-seven text-seven
     ((2 ∷ 3 ∷ 5 ∷ []) ∷ [])
@@ -124,8 +124,8 @@ unfolding pattern-seven text-seven patternOf oneWord follow onward earliestOf la
 seven = results hits-seven refl refl refl refl
 
 hits-eight : occurrences pattern-eight text-eight ≡ (1 ∷ 2 ∷ 4 ∷ []) ∷ []
-unfolding pattern-eight text-eight patternOf oneWord forest tree gather places branches only fits takes member far width limit least
-hits-eight = occurrences-each pattern-eight text-eight (lit≤ tt) (lit≤ tt)
+unfolding pattern-eight text-eight patternOf oneWord forest tree gather places branches only stands takes member far width limit least
+hits-eight = occurrences-each pattern-eight (plain pattern-eight text-eight) (lit≤ tt) (lit≤ tt)
 
 eight : Results pattern-eight text-eight
     ((1 ∷ 2 ∷ 4 ∷ []) ∷ [])
@@ -136,8 +136,8 @@ unfolding pattern-eight text-eight patternOf oneWord follow onward earliestOf la
 eight = results hits-eight refl refl refl refl
 
 two-not : Occurs pattern-two text-one (6 ∷ 7 ∷ 8 ∷ []) → ⊥
-unfolding pattern-two text-one patternOf oneWord occurs within each takes member
-two-not o = true≢false (sym (occurs-iff pattern-two text-one (6 ∷ 7 ∷ 8 ∷ []) .1 o))
+unfolding pattern-two text-one patternOf oneWord occursIn within each takes member
+two-not o = true≢false (sym (occurs-iff pattern-two (plain pattern-two text-one) (6 ∷ 7 ∷ 8 ∷ []) .1 o))
 
 nowhere : (f : Pattern) → 1 ≤ f .count → (r : List ℕ) → Occurs f [] r → ⊥
 nowhere f some r o = omega (arith, o .inside 0 some)
@@ -147,9 +147,9 @@ unfolding follow forest gather places
 nine f a =
     let some = a .some in
     record {
-      forward = λ marks. earliest-none f [] some marks .1 (λ s o p. nowhere f some s o);
-      backward = λ marks. latest-none f [] some marks .1 (λ s o p. nowhere f some s o);
-      results = results (occurrences-each f [] some (a .least)) refl refl refl refl;
+      forward = λ marks. earliest-none f (plain f []) some marks .1 (λ s o p. nowhere f some s o);
+      backward = λ marks. latest-none f (plain f []) some marks .1 (λ s o p. nowhere f some s o);
+      results = results (occurrences-each f (plain f []) some (a .least)) refl refl refl refl;
     }
 
 pub nine-texts : NineTexts

@@ -1,17 +1,13 @@
 -- What the steps on one slot come to, in plain numbers: the least place that has a property.
 use Prim.Native.Nat.{ℕ, _+_, _-_, _≤_, _<_}
-use mathlib.Core.List.{List}
-use mathlib.Core.Bool.{true}
+use mathlib.Core.Bool.{Bool, true}
 use mathlib.Core.Path.{_≡_}
-use lib.ListN.{length, take}
-use Rattle.pattern.specs.Patterns.{member}
-use Rattle.matching.specs.Occurrence.{wordAt}
 
--- r is the first place from `from` on whose word is taken, or past the text
-pub record First (ws : List ℕ) (n : ℕ) (t : List ℕ) (from r : ℕ) : Type 0 where
+-- r is the first of n places, from `from` on, that fits, or past them
+pub record First (fits : ℕ → Bool) (n from r : ℕ) : Type 0 where
   pub low : from ≤ r
-  pub hit : r ≤ length t → member (wordAt t r) (take n ws) ≡ true
-  pub none : (p : ℕ) → p < r → from ≤ p → member (wordAt t p) (take n ws) ≡ true → ⊥
+  pub hit : r ≤ n → fits r ≡ true
+  pub none : (p : ℕ) → p < r → from ≤ p → fits p ≡ true → ⊥
 
 -- r is the larger of a and b
 pub record Larger (a b r : ℕ) : Type 0 where

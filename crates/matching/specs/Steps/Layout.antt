@@ -1,21 +1,18 @@
--- A pattern's slots as numbers, eleven a slot: the two bounds of its gap, how many words it lists, and its eight words.
-use Prim.Native.Nat.{ℕ, _+_, _*_, _<_, min}
+-- A pattern's slots as numbers, eleven a slot.
+use Prim.Native.Nat.{ℕ, _*_, _<_}
 use mathlib.Core.List.{List}
 use mathlib.Core.Path.{_≡_}
-use lib.ListN.{length}
+use lib.ListN.{length, take, drop}
 use Rattle.pattern.specs.declared.slot.Slot.{Slot}
 use Rattle.pattern.specs.declared.Pattern.{Pattern}
 use Rattle.pattern.specs.Patterns.{slotAt}
+use Rattle.pattern.specs.Numbers.{Numbers}
 use Rattle.matching.specs.Occurrence.{at}
 use Rattle.matching.specs.Steps.Settling.{Ready}
 
 -- the slot stands in l from the entry a on
 pub record LaidSlot (s : Slot) (a : ℕ) (l : List ℕ) : Type 0 where
-  pub low : at l a ≡ s .low
-  pub high : at l (a + 1) ≡ s .high
-  pub count : at l (a + 2) ≡ min (s .count) 8
-  pub words : (i : ℕ) → i < 8 → at l (a + 3 + i) ≡ at (s .words) i
-  pub eight : length (s .words) ≡ 8
+  pub numbers : Numbers s (take 11 (drop a l))
 
 -- it has been put there, and what is before it has stayed
 pub record SlotLaid (s : Slot) (a : ℕ) (l₀ l : List ℕ) : Type 0 where
@@ -29,11 +26,11 @@ pub record LaidOut (f : Pattern) (l : List ℕ) : Type 0 where
 abbrev pub patternOf : List Slot → ℕ → ℕ → ℕ → Pattern
 patternOf slots m least most = record { slots = slots; count = m; least = least; most = most }
 
--- what a search is given: a pattern, laid out in l, that is ready for the text
-pub record Plan (t : List ℕ) (m least most : ℕ) (l : List ℕ) : Type 0 where
+-- what a search is given: a pattern, laid out in l, that is ready for n places
+pub record Plan (n m least most : ℕ) (l : List ℕ) : Type 0 where
   pub slots : List Slot
-  pub ready : Ready (patternOf slots m least most) t
+  pub ready : Ready (patternOf slots m least most) n
   pub laid : LaidOut (patternOf slots m least most) l
 
-abbrev pub planned : {t : List ℕ} {m least most : ℕ} {l : List ℕ} → Plan t m least most l → Pattern
+abbrev pub planned : {n m least most : ℕ} {l : List ℕ} → Plan n m least most l → Pattern
 planned {m = m} {least} {most} w = patternOf (w .slots) m least most

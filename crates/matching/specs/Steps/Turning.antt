@@ -6,13 +6,17 @@ use mathlib.Core.Path.{_≡_}
 use lib.ListN.{length}
 use Rattle.pattern.specs.declared.slot.Slot.{Slot}
 use Rattle.pattern.specs.declared.Pattern.{Pattern}
-use Rattle.pattern.specs.Patterns.{slotAt}
-use Rattle.matching.specs.Occurrence.{at}
+use Rattle.pattern.specs.Patterns.{takes, slotAt}
+use Rattle.matching.specs.Occurrence.{View, takesAt, at}
 
 -- the text as it is read: from its end where it is mirrored
 abbrev pub seen : Bool → List ℕ → List ℕ
 seen true t = reverse t
 seen false t = t
+
+-- what a search for the pattern g sees of the text
+abbrev pub viewed : Bool → Pattern → List ℕ → View
+viewed mirrored g t = record { places = length t; fits = λ j p. takesAt (slotAt g j) (seen mirrored t) p }
 
 -- the row, read from the end of a text of n words
 unfoldable pub flip : ℕ → List ℕ → List ℕ
@@ -25,8 +29,7 @@ pub record Gap (m j r : ℕ) : Type 0 where
 
 -- the slot s stands at j in the pattern f read from the end
 pub record TurnedSlot (f : Pattern) (j : ℕ) (s : Slot) : Type 0 where
-  pub words : (i : ℕ) → i + j + 1 ≡ f .count → s .words ≡ slotAt f i .words
-  pub count : (i : ℕ) → i + j + 1 ≡ f .count → s .count ≡ slotAt f i .count
+  pub words : (i : ℕ) → i + j + 1 ≡ f .count → (w : ℕ) → takes s w ≡ takes (slotAt f i) w
   pub low : (i : ℕ) → i + j ≡ f .count → 0 < j → s .low ≡ slotAt f i .low
   pub high : (i : ℕ) → i + j ≡ f .count → 0 < j → s .high ≡ slotAt f i .high
 

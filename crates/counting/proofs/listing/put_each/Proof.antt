@@ -3,13 +3,15 @@ use native.Mathlib.Omega.{arith}
 use Prim.Native.Nat.{_+_, _-_}
 use mathlib.Core.Path.{_≡_, refl, _∙_}
 use lib.ListN.{length}
+use Rattle.matching.specs.Occurrence.{plain}
+use Rattle.counting.proofs.Passes.{window}
 use Rattle.counting.proofs.Listings.{leading, Listing, listing-begin, listing-skip, window-walk, listing-more, listed}
 use borrow.Author.Needs.{needs}
 use Rattle.counting.proofs.listing.put_each.Statement.{statement}
 use Rattle.counting.proofs.listing.put_each.Tie as tie
 
 abbrev Inv-loop : tie.InvT-loop
-Inv-loop f t marks reach w next₀ list₀ n m least low high row₀ rows₀ i₀ next list row rows i = (length next ≡ length next₀) × (length row ≡ 16) × Listing f t list₀ i rows list
+Inv-loop f t marks reach w next₀ list₀ n m least low high row₀ rows₀ i₀ next list row rows i = (length next ≡ length next₀) × (length row ≡ 16) × Listing f (plain f t) list₀ i rows list
 
 abbrev μ-loop : tie.MeasureT-loop
 μ-loop f t marks reach w next₀ list₀ n m least low high row₀ rows₀ i₀ next list row rows i = n - i
@@ -39,7 +41,7 @@ add-reach-all : tie.Need-add-reach-all Inv-loop μ-loop
 add-reach-all c = omega (arith, c .before .before .before .before .before .before .before .widen .ensures .1)
 
 reach-all-requires : tie.Need-reach-all-requires Inv-loop μ-loop
-reach-all-requires c κs = let ok = c .before .before .before .before .before .before .before .before .before .before .before .before .before .pre .0 in let mk = c .before .before .before .before .before .before .before .before .before .before .before .before .before .pre .1 .0 in let g = c .before .before .before .before .before .before .before .before .before .before .before .before .before .pre .1 .1 in let l = c .before .before .before .before .before .loop in (ok, (mk, (omega (arith, c .before .clip .ensures), omega arith, g .0, omega (arith, l .inv .0, g .3))))
+reach-all-requires c κs = let ok = c .before .before .before .before .before .before .before .before .before .before .before .before .before .pre .0 in let mk = c .before .before .before .before .before .before .before .before .before .before .before .before .before .pre .1 .0 in let g = c .before .before .before .before .before .before .before .before .before .before .before .before .before .pre .1 .1 in let l = c .before .before .before .before .before .loop in (window ok mk (omega (arith, c .before .clip .ensures)), (omega arith, g .0, omega (arith, l .inv .0, g .3)))
 
 slice-aggregate-walk : tie.Need-slice-aggregate-walk Inv-loop μ-loop
 slice-aggregate-walk c = search needs
@@ -51,7 +53,7 @@ slice-aggregate-walk-3 : tie.Need-slice-aggregate-walk-3 Inv-loop μ-loop
 slice-aggregate-walk-3 c = search needs
 
 walk-requires : tie.Need-walk-requires Inv-loop μ-loop
-walk-requires c κs = let a = c .before .before .before .before .before .before .before .before .before .before .before .before .before .before .before .before .before .before .before .before .before .args in let ok = c .before .before .before .before .before .before .before .before .before .before .before .before .before .before .before .before .before .before .before .before .before .pre .0 in let g = c .before .before .before .before .before .before .before .before .before .before .before .before .before .before .before .before .before .before .before .before .before .pre .1 .1 in let l = c .before .before .before .before .before .before .before .before .before .before .before .before .before .loop in let s = l .inv .2 in let n = c .before .before .before .before .before .before .before .before .before .before .before .before .loop-test .taken in let lead = leading (a .f) (a .t .now) (l .i) (c .before .before .before .before .before .before .before .before .before .clip .result) 0 (l .i + c .before .before .before .before .before .before .before .before .before .before .before .before .before .before .before .before .widen .result) ok (omega (arith, c .before .before .before .before .before .before .before .before .before .clip .ensures, n)) (c .before .before .before .before .before .before .before .reach-all .ensures) (c .before .before .before .before .before .before .before .before .before .before .before .before .before .before .before .lows .ensures) (c .before .before .before .before .before .before .before .before .before .before .before .before .before .before .highs .ensures) (omega (arith, c .before .before .before .before .before .before .before .reach-all .kept .1 .1 .1 .1 .1 .1 .1 .1 .0, l .inv .0, g .3)) in let ef : l .i + c .before .before .before .before .before .before .before .before .before .before .before .before .before .before .before .before .widen .result ≡ l .i + a .f .least = omega (arith, c .before .before .before .before .before .before .before .before .before .before .before .before .before .before .before .before .widen .ensures .0) in (window-walk ok s n (g .1) (c .before .before .before .before .before .before .before .before .before .clip .ensures) ef lead (g .4), l .inv .1)
+walk-requires c κs = let a = c .before .before .before .before .before .before .before .before .before .before .before .before .before .before .before .before .before .before .before .before .before .args in let ok = c .before .before .before .before .before .before .before .before .before .before .before .before .before .before .before .before .before .before .before .before .before .pre .0 in let mk = c .before .before .before .before .before .before .before .before .before .before .before .before .before .before .before .before .before .before .before .before .before .pre .1 .0 in let g = c .before .before .before .before .before .before .before .before .before .before .before .before .before .before .before .before .before .before .before .before .before .pre .1 .1 in let l = c .before .before .before .before .before .before .before .before .before .before .before .before .before .loop in let s = l .inv .2 in let n = c .before .before .before .before .before .before .before .before .before .before .before .before .loop-test .taken in let lead = leading (a .f) (plain (a .f) (a .t .now)) (l .i) (c .before .before .before .before .before .before .before .before .before .clip .result) 0 (l .i + c .before .before .before .before .before .before .before .before .before .before .before .before .before .before .before .before .widen .result) ok (omega (arith, c .before .before .before .before .before .before .before .before .before .clip .ensures, n)) (c .before .before .before .before .before .before .before .reach-all .ensures (window ok mk (omega (arith, c .before .before .before .before .before .before .before .before .before .clip .ensures, n)))) (c .before .before .before .before .before .before .before .before .before .before .before .before .before .before .before .lows .ensures) (c .before .before .before .before .before .before .before .before .before .before .before .before .before .before .highs .ensures) (omega (arith, c .before .before .before .before .before .before .before .reach-all .kept .1 .1 .1 .1 .1 .1 .1 .0, l .inv .0, g .3)) in let ef : l .i + c .before .before .before .before .before .before .before .before .before .before .before .before .before .before .before .before .widen .result ≡ l .i + a .f .least = omega (arith, c .before .before .before .before .before .before .before .before .before .before .before .before .before .before .before .before .widen .ensures .0) in (window-walk ok s n (g .1) (c .before .before .before .before .before .before .before .before .before .clip .ensures) ef lead (g .4), l .inv .1)
 
 add-i : tie.Need-add-i Inv-loop μ-loop
 add-i c = let short = c .before .before .before .before .before .before .before .before .before .before .before .before .before .before .before .before .before .before .before .before .before .before .before .before .before .pre .0 .short in let n = c .before .before .before .before .before .before .before .before .before .before .before .before .before .before .before .before .loop-test .taken in omega arith
@@ -60,7 +62,7 @@ loop-less : tie.Need-loop-less Inv-loop μ-loop
 loop-less c = search needs
 
 loop-again : tie.Need-loop-again Inv-loop μ-loop
-loop-again c = let a = c .before .before .before .before .before .before .before .before .before .before .before .before .before .before .before .before .before .before .before .before .before .before .before .before .before .args in let ok = c .before .before .before .before .before .before .before .before .before .before .before .before .before .before .before .before .before .before .before .before .before .before .before .before .before .pre .0 in let g = c .before .before .before .before .before .before .before .before .before .before .before .before .before .before .before .before .before .before .before .before .before .before .before .before .before .pre .1 .1 in let l = c .before .before .before .before .before .before .before .before .before .before .before .before .before .before .before .before .before .loop in let s = l .inv .2 in let n = c .before .before .before .before .before .before .before .before .before .before .before .before .before .before .before .before .loop-test .taken in let lead = leading (a .f) (a .t .now) (l .i) (c .before .before .before .before .before .before .before .before .before .before .before .before .before .clip .result) 0 (l .i + c .before .before .before .before .before .before .before .before .before .before .before .before .before .before .before .before .before .before .before .before .widen .result) ok (omega (arith, c .before .before .before .before .before .before .before .before .before .before .before .before .before .clip .ensures, n)) (c .before .before .before .before .before .before .before .before .before .before .before .reach-all .ensures) (c .before .before .before .before .before .before .before .before .before .before .before .before .before .before .before .before .before .before .before .lows .ensures) (c .before .before .before .before .before .before .before .before .before .before .before .before .before .before .before .before .before .before .highs .ensures) (omega (arith, c .before .before .before .before .before .before .before .before .before .before .before .reach-all .kept .1 .1 .1 .1 .1 .1 .1 .1 .0, l .inv .0, g .3)) in let ef : l .i + c .before .before .before .before .before .before .before .before .before .before .before .before .before .before .before .before .before .before .before .before .widen .result ≡ l .i + a .f .least = omega (arith, c .before .before .before .before .before .before .before .before .before .before .before .before .before .before .before .before .before .before .before .before .widen .ensures .0) in (c .before .before .before .before .before .before .before .before .before .before .before .reach-all .kept .1 .1 .1 .1 .1 .1 .1 .1 .0 ∙ l .inv .0, c .before .before .before .walk .kept .1 .1 .1 .1 .1 .1 .1 .1 .0 ∙ l .inv .1, listing-more ok s n (g .1) (c .before .before .before .before .before .before .before .before .before .before .before .before .before .clip .ensures) ef lead (g .4) (c .before .before .before .walk .kept .1 .1 .1 .1 .1 .1 .1 .1 .1 .1 .0) (c .before .before .before .walk .ensures .0 (window-walk ok s n (g .1) (c .before .before .before .before .before .before .before .before .before .before .before .before .before .clip .ensures) ef lead (g .4))))
+loop-again c = let a = c .before .before .before .before .before .before .before .before .before .before .before .before .before .before .before .before .before .before .before .before .before .before .before .before .before .args in let ok = c .before .before .before .before .before .before .before .before .before .before .before .before .before .before .before .before .before .before .before .before .before .before .before .before .before .pre .0 in let mk = c .before .before .before .before .before .before .before .before .before .before .before .before .before .before .before .before .before .before .before .before .before .before .before .before .before .pre .1 .0 in let g = c .before .before .before .before .before .before .before .before .before .before .before .before .before .before .before .before .before .before .before .before .before .before .before .before .before .pre .1 .1 in let l = c .before .before .before .before .before .before .before .before .before .before .before .before .before .before .before .before .before .loop in let s = l .inv .2 in let n = c .before .before .before .before .before .before .before .before .before .before .before .before .before .before .before .before .loop-test .taken in let lead = leading (a .f) (plain (a .f) (a .t .now)) (l .i) (c .before .before .before .before .before .before .before .before .before .before .before .before .before .clip .result) 0 (l .i + c .before .before .before .before .before .before .before .before .before .before .before .before .before .before .before .before .before .before .before .before .widen .result) ok (omega (arith, c .before .before .before .before .before .before .before .before .before .before .before .before .before .clip .ensures, n)) (c .before .before .before .before .before .before .before .before .before .before .before .reach-all .ensures (window ok mk (omega (arith, c .before .before .before .before .before .before .before .before .before .before .before .before .before .clip .ensures, n)))) (c .before .before .before .before .before .before .before .before .before .before .before .before .before .before .before .before .before .before .before .lows .ensures) (c .before .before .before .before .before .before .before .before .before .before .before .before .before .before .before .before .before .before .highs .ensures) (omega (arith, c .before .before .before .before .before .before .before .before .before .before .before .reach-all .kept .1 .1 .1 .1 .1 .1 .1 .0, l .inv .0, g .3)) in let ef : l .i + c .before .before .before .before .before .before .before .before .before .before .before .before .before .before .before .before .before .before .before .before .widen .result ≡ l .i + a .f .least = omega (arith, c .before .before .before .before .before .before .before .before .before .before .before .before .before .before .before .before .before .before .before .before .widen .ensures .0) in (c .before .before .before .before .before .before .before .before .before .before .before .reach-all .kept .1 .1 .1 .1 .1 .1 .1 .0 ∙ l .inv .0, c .before .before .before .walk .kept .1 .1 .1 .1 .1 .1 .1 .1 .0 ∙ l .inv .1, listing-more ok s n (g .1) (c .before .before .before .before .before .before .before .before .before .before .before .before .before .clip .ensures) ef lead (g .4) (c .before .before .before .walk .kept .1 .1 .1 .1 .1 .1 .1 .1 .1 .1 .0) (c .before .before .before .walk .ensures .0 (window-walk ok s n (g .1) (c .before .before .before .before .before .before .before .before .before .before .before .before .before .clip .ensures) ef lead (g .4))))
 
 add-i-2 : tie.Need-add-i-2 Inv-loop μ-loop
 add-i-2 c = omega arith

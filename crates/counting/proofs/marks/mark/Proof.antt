@@ -1,4 +1,5 @@
 -- `counting::marks::mark` meets its contract. The invariant: the slots passed are marked.
+use Rattle.matching.specs.Occurrence.{plain}
 use Rattle.counting.proofs.Passes.{MarkedBelow, marks-begin, marks-more, all-marked}
 use Prim.Native.Nat.{_-_}
 use native.Mathlib.Omega.{arith}
@@ -7,7 +8,7 @@ use Rattle.counting.proofs.marks.mark.Statement.{statement}
 use Rattle.counting.proofs.marks.mark.Tie as tie
 
 abbrev Inv-loop : tie.InvT-loop
-Inv-loop t marks₀ f m j₀ marks j = MarkedBelow f t marks₀ j marks
+Inv-loop t marks₀ f m j₀ marks j = MarkedBelow f (plain f t) marks₀ j marks
 
 abbrev μ-loop : tie.MeasureT-loop
 μ-loop t marks₀ f m j₀ marks j = m - j

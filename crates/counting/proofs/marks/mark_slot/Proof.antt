@@ -1,5 +1,6 @@
 -- `counting::marks::mark_slot` meets its contract. The invariant: the marks of the words passed are set.
-use Rattle.counting.proofs.Loops.{Marking, mark-begin, mark-more, slot-marked}
+use Rattle.matching.specs.Occurrence.{takesAt}
+use Rattle.counting.proofs.Loops.{Marking, mark-begin, mark-more, slot-marked, word-at}
 use Prim.Native.Nat.{_-_, _≤_}
 use mathlib.Core.Path.{sym}
 use borrow.Author.Needs.{needs}
@@ -7,7 +8,7 @@ use Rattle.counting.proofs.marks.mark_slot.Statement.{statement}
 use Rattle.counting.proofs.marks.mark_slot.Tie as tie
 
 abbrev Inv-loop : tie.InvT-loop
-Inv-loop slot t at marks₀ n i₀ marks i = (i ≤ n) × Marking slot t at marks₀ i marks
+Inv-loop slot t at marks₀ n i₀ marks i = (i ≤ n) × Marking (takesAt slot t) at marks₀ i marks
 
 abbrev μ-loop : tie.MeasureT-loop
 μ-loop slot t at marks₀ n i₀ marks i = n - i
@@ -37,7 +38,7 @@ loop-less : tie.Need-loop-less Inv-loop μ-loop
 loop-less c = search needs
 
 loop-again : tie.Need-loop-again Inv-loop μ-loop
-loop-again c = (search needs, mark-more (c .before .before .before .before .loop .inv .1) (c .before .before .before .before .before .before .before .pre) (c .before .before .before .loop-test .taken) 1 (c .before .takes .ensures) (sym (c .if1 .taken)))
+loop-again c = (search needs, mark-more (c .before .before .before .before .loop .inv .1) (c .before .before .before .before .before .before .before .pre) (c .before .before .before .loop-test .taken) 1 (word-at (c .before .before .before .before .before .before .before .args .slot) (c .before .before .before .before .before .before .before .args .t .now) _ (c .before .takes .ensures)) (sym (c .if1 .taken)))
 
 slice-write-marks-2 : tie.Need-slice-write-marks-2 Inv-loop μ-loop
 slice-write-marks-2 c = search needs
@@ -49,7 +50,7 @@ loop-less-2 : tie.Need-loop-less-2 Inv-loop μ-loop
 loop-less-2 c = search needs
 
 loop-again-2 : tie.Need-loop-again-2 Inv-loop μ-loop
-loop-again-2 c = (search needs, mark-more (c .before .before .before .before .loop .inv .1) (c .before .before .before .before .before .before .before .pre) (c .before .before .before .loop-test .taken) 0 (c .before .takes .ensures) (sym (c .if1 .left)))
+loop-again-2 c = (search needs, mark-more (c .before .before .before .before .loop .inv .1) (c .before .before .before .before .before .before .before .pre) (c .before .before .before .loop-test .taken) 0 (word-at (c .before .before .before .before .before .before .before .args .slot) (c .before .before .before .before .before .before .before .args .t .now) _ (c .before .takes .ensures)) (sym (c .if1 .left)))
 
 same-length : tie.Need-same-length Inv-loop μ-loop
 same-length c = search needs

@@ -8,10 +8,10 @@ use Rattle.counting.proofs.spans.farthest.Statement.{statement}
 use Rattle.counting.proofs.spans.farthest.Tie as tie
 
 abbrev Inv-loop : tie.InvT-loop
-Inv-loop t f m r₀ k₀ r k = (k < f .count) × (r ≡ far f k) × (r ≤ 960)
+Inv-loop f m r₀ k₀ r k = (k < f .count) × (r ≡ far f k) × (r ≤ 960)
 
 abbrev μ-loop : tie.MeasureT-loop
-μ-loop t f m r₀ k₀ r k = m - k
+μ-loop f m r₀ k₀ r k = m - k
 
 sub-m : tie.Need-sub-m Inv-loop μ-loop
 sub-m c = search needs
@@ -42,10 +42,10 @@ loop-less : tie.Need-loop-less Inv-loop μ-loop
 loop-less c = search needs
 
 loop-again : tie.Need-loop-again Inv-loop μ-loop
-loop-again c = far-more (c .before .before .before .before .before .pre) (c .before .before .before .loop .inv) (c .before .before .loop-test .taken) (c .widen .ensures .0)
+loop-again c = far-more (c .before .before .before .before .pre) (c .before .before .before .loop .inv) (c .before .before .loop-test .taken) (c .widen .ensures .0)
 
 returns : tie.Need-returns Inv-loop μ-loop
-returns c = last-slot (far (c .before .before .before .args .t1)) (c .before .loop .inv) (c .loop-test .left)
+returns c = last-slot (far (c .before .before .args .t1)) (c .before .loop .inv) (c .loop-test .left)
 
 pub farthest-spec : {M : Type 1} → statement M
 farthest-spec =

@@ -1,5 +1,6 @@
 -- `counting::spans::unbound` meets its contract: its two tests are those of the definition.
 use native.Mathlib.Omega.{arith}
+use Rattle.matching.specs.Occurrence.{plain}
 use Rattle.counting.proofs.Passes.{free-yes, free-long, free-short}
 use borrow.Author.Needs.{needs}
 use Rattle.counting.proofs.spans.unbound.Statement.{statement}
@@ -27,13 +28,13 @@ clip-requires : tie.Need-clip-requires
 clip-requires c κs = search needs
 
 returns : tie.Need-returns
-returns c = free-yes (c .before .before .before .before .before .before .before .before .args .f) (c .before .before .before .before .before .before .before .before .args .t .now) (c .before .before .before .before .widen .ensures .0) (c .before .before .before .before .before .before .nearest .ensures .0) (omega (arith, c .before .clip .ensures, c .before .before .before .before .before .farthest .ensures .0)) (c .before .before .before .widen2 .ensures .0) (c .before .before .if1 .taken) (c .if2 .taken)
+returns c = free-yes (c .before .before .before .before .before .before .before .before .args .f) (plain (c .before .before .before .before .before .before .before .before .args .f) (c .before .before .before .before .before .before .before .before .args .t .now)) (c .before .before .before .before .widen .ensures .0) (c .before .before .before .before .before .before .nearest .ensures .0) (omega (arith, c .before .clip .ensures, c .before .before .before .before .before .farthest .ensures .0)) (c .before .before .before .widen2 .ensures .0) (c .before .before .if1 .taken) (c .if2 .taken)
 
 returns-2 : tie.Need-returns-2
-returns-2 c = free-long (c .before .before .before .before .before .before .before .before .args .f) (c .before .before .before .before .before .before .before .before .args .t .now) (c .before .before .before .before .widen .ensures .0) (c .before .before .before .before .before .before .nearest .ensures .0) (omega (arith, c .before .clip .ensures, c .before .before .before .before .before .farthest .ensures .0)) (c .before .before .before .widen2 .ensures .0) (c .before .before .if1 .taken) (c .if2 .left)
+returns-2 c = free-long (c .before .before .before .before .before .before .before .before .args .f) (plain (c .before .before .before .before .before .before .before .before .args .f) (c .before .before .before .before .before .before .before .before .args .t .now)) (c .before .before .before .before .widen .ensures .0) (c .before .before .before .before .before .before .nearest .ensures .0) (omega (arith, c .before .clip .ensures, c .before .before .before .before .before .farthest .ensures .0)) (c .before .before .before .widen2 .ensures .0) (c .before .before .if1 .taken) (c .if2 .left)
 
 returns-3 : tie.Need-returns-3
-returns-3 c = free-short (c .before .before .before .before .before .before .args .f) (c .before .before .before .before .before .before .args .t .now) (c .before .before .widen .ensures .0) (c .before .before .before .before .nearest .ensures .0) (c .if1 .left)
+returns-3 c = free-short (c .before .before .before .before .before .before .args .f) (plain (c .before .before .before .before .before .before .args .f) (c .before .before .before .before .before .before .args .t .now)) (c .before .before .widen .ensures .0) (c .before .before .before .before .nearest .ensures .0) (c .if1 .left)
 
 pub unbound-spec : {M : Type 1} → statement M
 unbound-spec =

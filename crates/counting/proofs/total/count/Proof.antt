@@ -2,6 +2,7 @@
 use native.Mathlib.Omega.{arith}
 use mathlib.Core.Path.{sym, _∙_}
 use Rattle.matching.specs.Laws.Cover.{width}
+use Rattle.matching.specs.Occurrence.{plain}
 use Rattle.counting.proofs.Passes.{free-bounds}
 use borrow.Author.Needs.{needs}
 use Rattle.counting.proofs.total.count.Statement.{statement}
@@ -14,7 +15,7 @@ unbound-requires : tie.Need-unbound-requires
 unbound-requires c κs = search needs
 
 whole-requires : tie.Need-whole-requires
-whole-requires c κs = let b = free-bounds (c .before .before .before .before .before .args .f) (c .before .before .before .before .before .args .t .now) (sym (c .before .unbound .ensures) ∙ c .if1 .taken) in (c .before .before .before .before .before .pre .0, (c .before .before .before .before .before .pre .1, (b .0, b .1, c .before .before .farthest .ensures .0)))
+whole-requires c κs = let b = free-bounds (c .before .before .before .before .before .args .f) (plain (c .before .before .before .before .before .args .f) (c .before .before .before .before .before .args .t .now)) (sym (c .before .unbound .ensures) ∙ c .if1 .taken) in (c .before .before .before .before .before .pre .0, (c .before .before .before .before .before .pre .1, (b .0, b .1, c .before .before .farthest .ensures .0)))
 
 returns : tie.Need-returns
 returns c = search needs

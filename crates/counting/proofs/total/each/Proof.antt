@@ -1,8 +1,9 @@
 -- `counting::total::each` meets its contract. The invariant: the sum is the number of the occurrences with a first place passed.
 use Rattle.matching.specs.Laws.Sums.{total}
 use Rattle.matching.specs.Laws.Cover.{starting}
+use Rattle.matching.specs.Occurrence.{plain}
 use Rattle.counting.specs.Numbers.{val, value}
-use Rattle.counting.proofs.Passes.{start-take, start-skip, add-sum, add-fits, skip-sum, all-sum}
+use Rattle.counting.proofs.Passes.{start-take, start-skip, add-sum, add-fits, skip-sum, all-sum, window}
 use Prim.Native.Nat.{ℕ, _-_, _≤_}
 use mathlib.Core.Path.{_≡_, refl, _∙_}
 use native.Mathlib.Omega.{arith}
@@ -12,7 +13,7 @@ use Rattle.counting.proofs.total.each.Statement.{statement}
 use Rattle.counting.proofs.total.each.Tie as tie
 
 abbrev Inv-loop : tie.InvT-loop
-Inv-loop f t marks reach w hi₀ lo₀ n least sum₀ i₀ hi lo sum i = (length hi ≡ 1000) × (length lo ≡ 1000) × (i ≤ length t) × (value sum ≡ total i (starting f t) 1)
+Inv-loop f t marks reach w hi₀ lo₀ n least sum₀ i₀ hi lo sum i = (length hi ≡ 1000) × (length lo ≡ 1000) × (i ≤ length t) × (value sum ≡ total i (starting f (plain f t)) 1)
 
 abbrev μ-loop : tie.MeasureT-loop
 μ-loop f t marks reach w hi₀ lo₀ n least sum₀ i₀ hi lo sum i = n - i
@@ -52,7 +53,7 @@ ways-requires c κs = let b = c .before .before .before .before .before .before 
     let g = b .pre .1 .1 in
     let n = c .before .before .before .before .before .loop-test .taken in
     let m = c .before .before .clip .ensures in
-    (ok, (b .pre .1 .0, (record { high = omega (arith, l .inv .0, m, g .3); low = omega (arith, l .inv .1, m, g .3) }, (omega (arith, m, n), omega arith, g .0))))
+    (window ok (b .pre .1 .0) (omega (arith, m, n)), (record { high = omega (arith, l .inv .0, m, g .3); low = omega (arith, l .inv .1, m, g .3) }, (omega arith, g .0)))
 
 array-read-t25 : tie.Need-array-read-t25 Inv-loop μ-loop
 array-read-t25 c = search needs
@@ -67,7 +68,7 @@ add-requires c κs = let b = c .before .before .before .before .before .before .
     let ok = b .pre .0 in
     let g = b .pre .1 .1 in
     let n = c .before .before .before .before .before .before .before .before .loop-test .taken in
-    let x = start-take ok (l .i) n (g .1) (g .2) (c .before .before .before .before .before .clip .ensures) (omega (arith, c .before .before .before .before .before .before .before .before .before .before .widen .ensures .0)) (c .before .before .ways .ensures) in
+    let x = start-take ok (l .i) n (g .1) (g .2) (c .before .before .before .before .before .clip .ensures) (omega (arith, c .before .before .before .before .before .before .before .before .before .before .widen .ensures .0)) (c .before .before .ways .ensures (window ok (b .pre .1 .0) (omega (arith, c .before .before .before .before .before .clip .ensures, n)))) in
     add-fits ok (l .i) n (l .inv .3) x
 
 add-i : tie.Need-add-i Inv-loop μ-loop
@@ -83,9 +84,9 @@ loop-again c = let b = c .before .before .before .before .before .before .before
     let ok = b .pre .0 in
     let g = b .pre .1 .1 in
     let n = c .before .before .before .before .before .before .before .before .before .loop-test .taken in
-    let x = start-take ok (l .i) n (g .1) (g .2) (c .before .before .before .before .before .before .clip .ensures) (omega (arith, c .before .before .before .before .before .before .before .before .before .before .before .widen .ensures .0)) (c .before .before .before .ways .ensures) in
+    let x = start-take ok (l .i) n (g .1) (g .2) (c .before .before .before .before .before .before .clip .ensures) (omega (arith, c .before .before .before .before .before .before .before .before .before .before .before .widen .ensures .0)) (c .before .before .before .ways .ensures (window ok (b .pre .1 .0) (omega (arith, c .before .before .before .before .before .before .clip .ensures, n)))) in
     let kept = c .before .before .before .ways .kept in
-    (kept .1 .1 .1 .1 .1 .1 .1 .1 .0 ∙ l .inv .0, kept .1 .1 .1 .1 .1 .1 .1 .1 .1 .0 ∙ l .inv .1, omega (arith, n), c .add .ensures ∙ add-sum ok (l .i) n (l .inv .3) x)
+    (kept .1 .1 .1 .1 .1 .1 .1 .0 ∙ l .inv .0, kept .1 .1 .1 .1 .1 .1 .1 .1 .0 ∙ l .inv .1, omega (arith, n), c .add .ensures ∙ add-sum ok (l .i) n (l .inv .3) x)
 
 add-i-2 : tie.Need-add-i-2 Inv-loop μ-loop
 add-i-2 c = search needs

@@ -2,6 +2,7 @@
 use Prim.Native.Nat.{ℕ}
 use lib.ListN.{length-replicate}
 use mathlib.Core.Path.{sym, _∙_}
+use Rattle.matching.specs.Occurrence.{plain}
 use Rattle.counting.specs.Laws.Inputs.{passed}
 use Rattle.counting.proofs.Passes.{marks-new}
 use Rattle.counting.proofs.Answers.{tally-over, tally-fine}
@@ -25,13 +26,13 @@ slice-aggregate-mark : tie.Need-slice-aggregate-mark
 slice-aggregate-mark c = sym (length-replicate {A = ℕ} 320000 0)
 
 mark-requires : tie.Need-mark-requires
-mark-requires c κs = (passed (c .before .before .before .before .before .args .text .now) (sym (c .before .before .before .check-with .ensures) ∙ c .before .enum-told .given .1), marks-new 320000)
+mark-requires c κs = (passed (plain (c .before .before .before .before .before .args .pattern) (c .before .before .before .before .before .args .text .now)) (sym (c .before .before .before .check-with .ensures) ∙ c .before .enum-told .given .1), marks-new 320000)
 
 slice-aggregate-count : tie.Need-slice-aggregate-count
 slice-aggregate-count c = search needs
 
 count-requires : tie.Need-count-requires
-count-requires c κs = (passed (c .before .before .before .before .before .before .before .before .args .text .now) (sym (c .before .before .before .before .before .before .check-with .ensures) ∙ c .before .before .before .before .enum-told .given .1), c .before .before .mark .ensures)
+count-requires c κs = (passed (plain (c .before .before .before .before .before .before .before .before .args .pattern) (c .before .before .before .before .before .before .before .before .args .text .now)) (sym (c .before .before .before .before .before .before .check-with .ensures) ∙ c .before .before .before .before .enum-told .given .1), c .before .before .mark .ensures)
 
 returns-2 : tie.Need-returns-2
 returns-2 c = tally-over (sym (c .before .before .before .before .before .before .before .before .before .check-with .ensures) ∙ c .before .before .before .before .before .before .before .enum-told .given .1) (c .before .before .count .result) (c .before .before .count .ensures) (c .if1 .taken)

@@ -2,7 +2,7 @@
 use native.Mathlib.Omega.{arith}
 use Prim.Native.Nat.{_-_}
 use Rattle.matching.specs.Occurrence.{at}
-use Rattle.matching.specs.Steps.Turning.{seen}
+use Rattle.matching.specs.Steps.Turning.{viewed}
 use Rattle.matching.proofs.Laying.{plan}
 use Rattle.matching.proofs.Finding.{Counted, counted-begin, counted-end, counted-few, counted-less, counted-more}
 use borrow.Author.Needs.{needs}
@@ -10,7 +10,7 @@ use Rattle.matching.proofs.lists.count_rows.Statement.{statement}
 use Rattle.matching.proofs.lists.count_rows.Tie as tie
 
 abbrev Inv-loop : tie.InvT-loop
-Inv-loop g text mirrored layout row₀ k₀ row k = Counted g (seen mirrored text) row k
+Inv-loop g text mirrored layout row₀ k₀ row k = Counted g (viewed mirrored g text) row k
 
 abbrev μ-loop : tie.MeasureT-loop
 μ-loop g text mirrored layout row₀ k₀ row k = 20001 - at row 0
@@ -19,7 +19,7 @@ lay-out-requires : tie.Need-lay-out-requires Inv-loop μ-loop
 lay-out-requires c κs = (c .before .pre) .few
 
 loop-holds : tie.Need-loop-holds Inv-loop μ-loop
-loop-holds c = counted-begin ((c .before .before .args) .g) (seen ((c .before .before .args) .mirrored) ((c .before .before .args) .text .now)) ((c .before .before .pre) .few)
+loop-holds c = counted-begin ((c .before .before .args) .g) (viewed ((c .before .before .args) .mirrored) ((c .before .before .args) .g) ((c .before .before .args) .text .now)) ((c .before .before .pre) .few)
 
 slice-aggregate-advance : tie.Need-slice-aggregate-advance Inv-loop μ-loop
 slice-aggregate-advance c = search needs

@@ -3,9 +3,9 @@ use native.Mathlib.Omega.{arith}
 use Prim.Native.Nat.{ℕ, _≤_, _*_}
 use mathlib.Core.Path.{refl, sym, _∙_, ap}
 use lib.ListN.{length}
-use Rattle.matching.specs.Lists.{leftmost}
+use Rattle.matching.specs.Lists.{leftmostIn}
 use Rattle.matching.specs.Steps.Settling.{Ready}
-use Rattle.matching.specs.Steps.Turning.{seen}
+use Rattle.matching.specs.Steps.Turning.{viewed}
 use Rattle.matching.specs.Laws.Ready.{ready}
 use Rattle.matching.proofs.Writing.{products-fit}
 use Rattle.matching.proofs.Listing.{room-always, faces-ready, listed-short, filled-short, listed-done, filled-done}
@@ -13,17 +13,17 @@ use borrow.Author.Needs.{needs}
 use Rattle.matching.proofs.lists.fill.Statement.{statement}
 use Rattle.matching.proofs.lists.fill.Tie as tie
 
-ok : (c : tie.After-enum-told) → Ready (c .before .before .before .before .before .args .pattern) (c .before .before .before .before .before .args .text .now)
-ok c = ready (c .before .before .before .before .before .args .pattern) (c .before .before .before .before .before .args .text .now) (sym (c .before .before .check-with .ensures) ∙ c .enum-told .given .1)
+ok : (c : tie.After-enum-told) → Ready (c .before .before .before .before .before .args .pattern) (length (c .before .before .before .before .before .args .text .now))
+ok c = ready (c .before .before .before .before .before .args .pattern) (length (c .before .before .before .before .before .args .text .now)) (sym (c .before .before .check-with .ensures) ∙ c .enum-told .given .1)
 
 -- one run serves
-room : (c : tie.Then1) → length (leftmost (c .before .faced .result) (seen (c .before .before .before .before .before .before .before .args .mirrored) (c .before .before .before .before .before .before .before .args .text .now))) * c .before .faced .result .count ≤ length (c .before .before .before .before .before .before .before .args .list .now)
+room : (c : tie.Then1) → length (leftmostIn (c .before .faced .result) (viewed (c .before .before .before .before .before .before .before .args .mirrored) (c .before .faced .result) (c .before .before .before .before .before .before .before .args .text .now))) * c .before .faced .result .count ≤ length (c .before .before .before .before .before .before .before .args .list .now)
 room c = room-always (c .before .faced .result) (c .before .before .before .before .before .before .before .args .mirrored) (c .before .before .before .before .before .before .before .args .text .now) (c .before .faced .ensures .count) (c .if1 .taken)
 
 -- the counted rows have room
-room-2 : (c : tie.Else2) → length (leftmost (c .before .before .before .faced .result) (seen (c .before .before .before .before .before .before .before .before .before .args .mirrored) (c .before .before .before .before .before .before .before .before .before .args .text .now))) * c .before .before .before .faced .result .count ≤ length (c .before .before .before .before .before .before .before .before .before .args .list .now)
+room-2 : (c : tie.Else2) → length (leftmostIn (c .before .before .before .faced .result) (viewed (c .before .before .before .before .before .before .before .before .before .args .mirrored) (c .before .before .before .faced .result) (c .before .before .before .before .before .before .before .before .before .args .text .now))) * c .before .before .before .faced .result .count ≤ length (c .before .before .before .before .before .before .before .before .before .args .list .now)
 room-2 c =
-    let n = length (leftmost (c .before .before .before .faced .result) (seen (c .before .before .before .before .before .before .before .before .before .args .mirrored) (c .before .before .before .before .before .before .before .before .before .args .text .now))) in
+    let n = length (leftmostIn (c .before .before .before .faced .result) (viewed (c .before .before .before .before .before .before .before .before .before .args .mirrored) (c .before .before .before .faced .result) (c .before .before .before .before .before .before .before .before .before .args .text .now))) in
     omega (arith, c .if2 .left, ap (λ (x : ℕ). x * c .before .before .before .before .before .before .before .before .before .args .pattern .count) (c .before .count-rows .ensures .0), ap (λ (x : ℕ). n * x) (c .before .before .before .faced .ensures .count))
 
 check-with-requires : tie.Need-check-with-requires
@@ -51,7 +51,7 @@ same-length : tie.Need-same-length
 same-length c = search needs
 
 returns-2 : tie.Need-returns-2
-returns-2 c = let a = ok ((c .before .before .before .before .before .before)) in let v = sym (c .before .before .before .before .before .before .before .before .check-with .ensures) ∙ c .before .before .before .before .before .before .enum-told .given .1 in simp v (c .before .before .store .ensures .0 ∙ listed-done (c .before .before .before .before .before .before .before .before .before .before .before .args .mirrored) (c .before .before .before .before .before .before .before .before .before .before .before .args .list .now) a (c .before .before .before .before .before .faced .ensures) (room ((c .before .before .before .before))), filled-done (c .before .before .before .before .before .before .before .before .before .before .before .args .mirrored) (c .before .before .before .before .before .before .before .before .before .before .before .args .list .now) a (c .before .before .before .before .before .faced .ensures) (room ((c .before .before .before .before))) (c .before .before .store .ensures .1))
+returns-2 c = let a = ok ((c .before .before .before .before .before .before)) in let v = sym (c .before .before .before .before .before .before .before .before .check-with .ensures) ∙ c .before .before .before .before .before .before .enum-told .given .1 in simp v (c .before .before .store .ensures .0 ∙ listed-done (c .before .before .before .before .before .before .before .before .before .before .before .args .mirrored) (c .before .before .before .before .before .before .before .before .before .before .before .args .text .now) (c .before .before .before .before .before .before .before .before .before .before .before .args .list .now) a (c .before .before .before .before .before .faced .ensures) (room ((c .before .before .before .before))), filled-done (c .before .before .before .before .before .before .before .before .before .before .before .args .mirrored) (c .before .before .before .before .before .before .before .before .before .before .before .args .text .now) (c .before .before .before .before .before .before .before .before .before .before .before .args .list .now) a (c .before .before .before .before .before .faced .ensures) (room ((c .before .before .before .before))) (c .before .before .store .ensures .1))
 
 count-rows-requires : tie.Need-count-rows-requires
 count-rows-requires c κs = faces-ready (ok ((c .before .before))) (c .before .before .before .before .before .before .before .args .mirrored) (c .before .faced .ensures)
@@ -60,7 +60,7 @@ mul-if2 : tie.Need-mul-if2
 mul-if2 c = omega (arith, products-fit (c .count-rows .ensures .1) (ok ((c .before .before .before)) .few))
 
 returns-3 : tie.Need-returns-3
-returns-3 c = let a = ok ((c .before .before .before .before)) in let v = sym (c .before .before .before .before .before .before .check-with .ensures) ∙ c .before .before .before .before .enum-told .given .1 in simp v (listed-short (c .before .before .before .before .before .before .before .before .before .args .mirrored) (c .before .before .before .before .before .before .before .before .before .args .list .now) a (c .before .before .before .faced .ensures) (c .before .count-rows .ensures .0) (c .if2 .taken), filled-short (c .before .before .before .before .before .before .before .before .before .args .mirrored) (c .before .before .before .before .before .before .before .before .before .args .list .now) a (c .before .before .before .faced .ensures) (c .before .count-rows .ensures .0) (c .if2 .taken))
+returns-3 c = let a = ok ((c .before .before .before .before)) in let v = sym (c .before .before .before .before .before .before .check-with .ensures) ∙ c .before .before .before .before .enum-told .given .1 in simp v (listed-short (c .before .before .before .before .before .before .before .before .before .args .mirrored) (c .before .before .before .before .before .before .before .before .before .args .text .now) (c .before .before .before .before .before .before .before .before .before .args .list .now) a (c .before .before .before .faced .ensures) (c .before .count-rows .ensures .0) (c .if2 .taken), filled-short (c .before .before .before .before .before .before .before .before .before .args .mirrored) (c .before .before .before .before .before .before .before .before .before .args .text .now) (c .before .before .before .before .before .before .before .before .before .args .list .now) a (c .before .before .before .faced .ensures) (c .before .count-rows .ensures .0) (c .if2 .taken))
 
 store-requires-2 : tie.Need-store-requires-2
 store-requires-2 c κs = (faces-ready (ok ((c .before .before .before .before .before))) (c .before .before .before .before .before .before .before .before .before .before .args .mirrored) (c .before .before .before .before .faced .ensures), room-2 ((c .before)))
@@ -69,7 +69,7 @@ same-length-2 : tie.Need-same-length-2
 same-length-2 c = search needs
 
 returns-4 : tie.Need-returns-4
-returns-4 c = let a = ok ((c .before .before .before .before .before .before .before .before)) in let v = sym (c .before .before .before .before .before .before .before .before .before .before .check-with .ensures) ∙ c .before .before .before .before .before .before .before .before .enum-told .given .1 in simp v (c .before .before .store2 .ensures .0 ∙ listed-done (c .before .before .before .before .before .before .before .before .before .before .before .before .before .args .mirrored) (c .before .before .before .before .before .before .before .before .before .before .before .before .before .args .list .now) a (c .before .before .before .before .before .before .before .faced .ensures) (room-2 ((c .before .before .before .before))), filled-done (c .before .before .before .before .before .before .before .before .before .before .before .before .before .args .mirrored) (c .before .before .before .before .before .before .before .before .before .before .before .before .before .args .list .now) a (c .before .before .before .before .before .before .before .faced .ensures) (room-2 ((c .before .before .before .before))) (c .before .before .store2 .ensures .1))
+returns-4 c = let a = ok ((c .before .before .before .before .before .before .before .before)) in let v = sym (c .before .before .before .before .before .before .before .before .before .before .check-with .ensures) ∙ c .before .before .before .before .before .before .before .before .enum-told .given .1 in simp v (c .before .before .store2 .ensures .0 ∙ listed-done (c .before .before .before .before .before .before .before .before .before .before .before .before .before .args .mirrored) (c .before .before .before .before .before .before .before .before .before .before .before .before .before .args .text .now) (c .before .before .before .before .before .before .before .before .before .before .before .before .before .args .list .now) a (c .before .before .before .before .before .before .before .faced .ensures) (room-2 ((c .before .before .before .before))), filled-done (c .before .before .before .before .before .before .before .before .before .before .before .before .before .args .mirrored) (c .before .before .before .before .before .before .before .before .before .before .before .before .before .args .text .now) (c .before .before .before .before .before .before .before .before .before .before .before .before .before .args .list .now) a (c .before .before .before .before .before .before .before .faced .ensures) (room-2 ((c .before .before .before .before))) (c .before .before .store2 .ensures .1))
 
 pub fill-spec : {M : Type 1} → statement M
 fill-spec =

@@ -1,5 +1,6 @@
 -- `matching::support` meets its contract: the count is the length of the front list.
 use mathlib.Core.Path.{sym, _∙_, ap}
+use lib.ListN.{length}
 use Rattle.matching.specs.declared.rows.Listed.the-variants.{Rows}
 use Rattle.matching.specs.Laws.Ready.{ready}
 use Rattle.matching.proofs.Listing.{best}
@@ -20,7 +21,7 @@ enum-told : tie.Need-enum-told
 enum-told c = search needs
 
 count-rows-requires : tie.Need-count-rows-requires
-count-rows-requires c κs = ready (c .before .before .before .before .args .pattern) (c .before .before .before .before .args .text .now) (sym (c .before .before .check-with .ensures) ∙ c .enum-told .given .1)
+count-rows-requires c κs = ready (c .before .before .before .before .args .pattern) (length (c .before .before .before .before .args .text .now)) (sym (c .before .before .check-with .ensures) ∙ c .enum-told .given .1)
 
 returns-2 : tie.Need-returns-2
 returns-2 c = (simp (sym (c .before .before .before .check-with .ensures) ∙ c .before .enum-told .given .1) (ap Rows (c .count-rows .ensures .0)), best (c .before .before .before .before .before .args .pattern) (c .before .before .before .before .before .args .text .now))

@@ -7,7 +7,7 @@ use lib.Seq.{paste, length-paste}
 use borrow.Rule.Slice.PartMut.{putMid}
 use Rattle.matching.specs.Occurrence.{at}
 use Rattle.matching.specs.Laws.Lending.{row-pasted}
-use Rattle.matching.specs.Steps.Turning.{seen}
+use Rattle.matching.specs.Steps.Turning.{viewed}
 use Rattle.matching.proofs.Laying.{plan}
 use Rattle.matching.proofs.Finding.{counted-end, counted-few, counted-less}
 use Rattle.matching.proofs.Writing.{Writing, writing-begin, writing-more, writing-all, room-next, products-fit}
@@ -16,7 +16,7 @@ use Rattle.matching.proofs.lists.write_rows.Statement.{statement}
 use Rattle.matching.proofs.lists.write_rows.Tie as tie
 
 abbrev Inv-loop : tie.InvT-loop
-Inv-loop g text mirrored list₀ m layout row₀ k₀ list row k = Writing g (seen mirrored text) list₀ list row k
+Inv-loop g text mirrored list₀ m layout row₀ k₀ list row k = Writing g (viewed mirrored g text) list₀ list row k
 
 abbrev μ-loop : tie.MeasureT-loop
 μ-loop g text mirrored list₀ m layout row₀ k₀ list row k = 20001 - at row 0
@@ -39,7 +39,7 @@ lay-out-requires : tie.Need-lay-out-requires Inv-loop μ-loop
 lay-out-requires c κs = (c .before .before .pre) .0 .few
 
 loop-holds : tie.Need-loop-holds Inv-loop μ-loop
-loop-holds c = writing-begin ((c .before .before .before .args) .g) (seen ((c .before .before .before .args) .mirrored) ((c .before .before .before .args) .text .now)) ((c .before .before .before .args) .list .now) ((c .before .before .before .pre) .0 .few)
+loop-holds c = writing-begin ((c .before .before .before .args) .g) (viewed ((c .before .before .before .args) .mirrored) ((c .before .before .before .args) .g) ((c .before .before .before .args) .text .now)) ((c .before .before .before .args) .list .now) ((c .before .before .before .pre) .0 .few)
 
 slice-aggregate-advance : tie.Need-slice-aggregate-advance Inv-loop μ-loop
 slice-aggregate-advance c = search needs

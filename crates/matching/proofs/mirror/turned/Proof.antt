@@ -45,6 +45,9 @@ mul-g c = search needs
 element-copy-out-g : tie.Need-element-copy-out-g Inv-loop μ-loop
 element-copy-out-g c = search needs
 
+with-gap-requires : tie.Need-with-gap-requires Inv-loop μ-loop
+with-gap-requires c κs = search needs
+
 mul-slots : tie.Need-mul-slots Inv-loop μ-loop
 mul-slots c = search needs
 
@@ -58,7 +61,15 @@ loop-less : tie.Need-loop-less Inv-loop μ-loop
 loop-less c = search needs
 
 loop-again : tie.Need-loop-again Inv-loop μ-loop
-loop-again c = let a = c .before .before .before .before .before .before .before .args in let l = c .before .before .before .before .before .loop in let z : l .j < length (l .slots) = omega arith in (search needs, search needs, set-more noSlot (λ k s. TurnedSlot (a .t1) k s) (l .slots) (l .j) _ z (l .inv .2) (turned-slot (a .t1) (l .j) _ (c .before .before .before .before .loop-test .taken) (c .before .before .gap-of .ensures)))
+loop-again c =
+    let a = c .before .before .before .before .before .before .before .args in
+    let l = c .before .before .before .before .before .loop in
+    let z : l .j < length (l .slots) = omega arith in (
+      search needs,
+      search needs,
+      set-more noSlot (λ k s. TurnedSlot (a .t1) k s) (l .slots) (l .j) _ z (l .inv .2)
+          (turned-slot (a .t1) (l .j) _ (c .before .before .before .before .loop-test .taken) (c .before .before .gap-of .ensures) (c .with-gap .ensures)),
+    )
 
 returns : tie.Need-returns Inv-loop μ-loop
 returns c = record { count = refl; least = refl; most = refl; slot = λ k h. c .before .loop .inv .2 k (omega (arith, c .loop-test .left)) }
@@ -78,6 +89,7 @@ turned-spec =
     gap-of-requires
     mul-g
     element-copy-out-g
+    with-gap-requires
     mul-slots
     array-set-from-slots
     add-j

@@ -5,8 +5,7 @@ use native.Mathlib.Omega.{arith}
 use Prim.Native.Nat.{_+_, _*_, _-_}
 use Rattle.matching.proofs.Raising.{none, less, placed}
 use Rattle.matching.proofs.Settling.{Calm, calm-begin, calm-same, calm-raise, all-calm, settled, unsettled}
-use Rattle.matching.specs.Laws.Mirror.{length-seen}
-use Rattle.matching.specs.Steps.Turning.{seen}
+use Rattle.matching.specs.Steps.Turning.{viewed}
 use Rattle.matching.specs.Steps.Settling.{slack}
 use Rattle.matching.specs.Steps.Layout.{Plan, planned}
 use borrow.Author.Needs.{needs}
@@ -14,13 +13,10 @@ use Rattle.matching.proofs.search.settle.Statement.{statement}
 use Rattle.matching.proofs.search.settle.Tie as tie
 
 abbrev Inv-loop : tie.InvT-loop
-Inv-loop layout m least most text mirrored p₀ n calm₀ j₀ p calm j = (w : Plan (seen mirrored text) m least most layout) → Calm (planned w) (seen mirrored text) p₀ p calm j
+Inv-loop layout m least most text mirrored p₀ n calm₀ j₀ p calm j = (w : Plan (length text) m least most layout) → Calm (planned w) (viewed mirrored (planned w) text) p₀ p calm j
 
 abbrev μ-loop : tie.MeasureT-loop
 μ-loop layout m least most text mirrored p₀ n calm₀ j₀ p calm j = 17 * slack p + (m - calm)
-
-size : (c : tie.Start Inv-loop μ-loop) → length (seen (c .args .mirrored) (c .args .text .now)) ≡ length (c .args .text .now)
-size c = length-seen (c .args .mirrored) (c .args .text .now)
 
 loop-holds : tie.Need-loop-holds Inv-loop μ-loop
 loop-holds c = λ w. calm-begin _ ((c .before .before .before .pre) .1 .0) (w .ready .some)
@@ -35,7 +31,7 @@ same-length : tie.Need-same-length Inv-loop μ-loop
 same-length c = (c .before .before .before .before .before .loop) .inv ((c .before .before .before .before .before .before .before .before .before .pre) .0) .rising .size ∙ sym ((c .before .before .before .before .before .before .before .before .before .pre) .1 .0)
 
 returns : tie.Need-returns Inv-loop μ-loop
-returns c = λ w. unsettled refl (none ((c .before .before .before .before .before .loop) .inv w .rising) ((c .before .visit) .ensures w) ((c .before .before .before .before .before .loop) .inv w .slot) (omega (arith, size (c .before .before .before .before .before .before .before .before .before), (c .if1) .taken)))
+returns c = λ w. unsettled refl (none ((c .before .before .before .before .before .loop) .inv w .rising) ((c .before .visit) .ensures w) ((c .before .before .before .before .before .loop) .inv w .slot) (omega (arith, (c .if1) .taken)))
 
 mul-wide : tie.Need-mul-wide Inv-loop μ-loop
 mul-wide c = let s = (c .before .before .before .before .before .loop) .inv ((c .before .before .before .before .before .before .before .before .before .pre) .0) in omega (arith, s .slot, (c .before .before .before .before .before .before .before .before .before .pre) .0 .ready .few)
@@ -53,10 +49,10 @@ loop-less : tie.Need-loop-less Inv-loop μ-loop
 loop-less c = omega (arith, (c .before .before .before .before .before .before .before .loop-test) .taken)
 
 loop-again : tie.Need-loop-again Inv-loop μ-loop
-loop-again c = λ w. calm-same ((c .before .before .before .before .before .before .before .before .loop) .inv w) ((c .before .before .before .before .before .before .next) .ensures) ((c .before .before .before .before .visit) .ensures w) (omega (arith, size (c .before .before .before .before .before .before .before .before .before .before .before .before), (c .before .before .before .if1) .left)) ((c .before .before .before .before .before .before .before .loop-test) .taken) ((c .if2) .taken ∙ (c .before .wide) .ensures .0)
+loop-again c = λ w. calm-same ((c .before .before .before .before .before .before .before .before .loop) .inv w) ((c .before .before .before .before .before .before .next) .ensures) ((c .before .before .before .before .visit) .ensures w) (omega (arith, (c .before .before .before .if1) .left)) ((c .before .before .before .before .before .before .before .loop-test) .taken) ((c .if2) .taken ∙ (c .before .wide) .ensures .0)
 
 cast-p : tie.Need-cast-p Inv-loop μ-loop
-cast-p c = omega (arith, size (c .before .before .before .before .before .before .before .before .before .before .before .before), (c .before .before .before .if1) .left, (c .before .before .before .before .before .before .before .before .before .before .before .before .pre) .0 .ready .short)
+cast-p c = omega (arith, (c .before .before .before .if1) .left, (c .before .before .before .before .before .before .before .before .before .before .before .before .pre) .0 .ready .short)
 
 mul-p : tie.Need-mul-p Inv-loop μ-loop
 mul-p c = let s = (c .before .before .before .before .before .before .before .before .loop) .inv ((c .before .before .before .before .before .before .before .before .before .before .before .before .pre) .0) in omega (arith, s .slot, (c .before .before .before .before .before .before .before .before .before .before .before .before .pre) .0 .ready .few)
@@ -65,10 +61,10 @@ slice-write-p : tie.Need-slice-write-p Inv-loop μ-loop
 slice-write-p c = let s = (c .before .before .before .before .before .before .before .before .loop) .inv ((c .before .before .before .before .before .before .before .before .before .before .before .before .pre) .0) in omega (arith, s .slot, s .rising .size, (c .before .before .before .before .before .before .before .before .before .before .before .before .pre) .0 .ready .few)
 
 loop-less-2 : tie.Need-loop-less-2 Inv-loop μ-loop
-loop-less-2 c = let w = (c .before .before .before .before .before .before .before .before .before .before .before .before .pre) .0 in let s = (c .before .before .before .before .before .before .before .before .loop) .inv w in omega (arith, w .ready .few, (c .before .before .before .before .before .before .before .loop-test) .taken, less (s .rising) ((c .before .before .before .before .visit) .ensures w) (s .slot) (w .ready) (omega (arith, size (c .before .before .before .before .before .before .before .before .before .before .before .before), (c .before .before .before .if1) .left)) (λ e. (c .if2) .left (e ∙ sym ((c .before .wide) .ensures .0))))
+loop-less-2 c = let w = (c .before .before .before .before .before .before .before .before .before .before .before .before .pre) .0 in let s = (c .before .before .before .before .before .before .before .before .loop) .inv w in omega (arith, w .ready .few, (c .before .before .before .before .before .before .before .loop-test) .taken, less (s .rising) ((c .before .before .before .before .visit) .ensures w) (s .slot) (w .ready) (omega (arith, (c .before .before .before .if1) .left)) (λ e. (c .if2) .left (e ∙ sym ((c .before .wide) .ensures .0))))
 
 loop-again-2 : tie.Need-loop-again-2 Inv-loop μ-loop
-loop-again-2 c = λ w. calm-raise ((c .before .before .before .before .before .before .before .before .loop) .inv w) ((c .before .before .before .before .before .before .next) .ensures) ((c .before .before .before .before .visit) .ensures w) (omega (arith, size (c .before .before .before .before .before .before .before .before .before .before .before .before), (c .before .before .before .if1) .left)) (w .ready .few)
+loop-again-2 c = λ w. calm-raise ((c .before .before .before .before .before .before .before .before .loop) .inv w) ((c .before .before .before .before .before .before .next) .ensures) ((c .before .before .before .before .visit) .ensures w) (omega (arith, (c .before .before .before .if1) .left)) (w .ready .few)
 
 same-length-2 : tie.Need-same-length-2 Inv-loop μ-loop
 same-length-2 c = (c .before .loop) .inv ((c .before .before .before .before .before .pre) .0) .rising .size ∙ sym ((c .before .before .before .before .before .pre) .1 .0)

@@ -1,12 +1,49 @@
--- `visit` meets its contract: the neighbours allow the least place that `need` says, and the text the first from there on.
+-- `visit` meets its contract: the neighbours allow the least place that `need` says, and the slot fits the first from there on.
 use mathlib.Core.Path.{_≡_, _∙_}
 use native.Mathlib.Omega.{arith}
 use Prim.Native.Nat.{_+_, _*_, _-_}
 use Rattle.matching.proofs.Raising.{visited}
-use Rattle.matching.proofs.Laying.{first-laid}
+use Rattle.matching.proofs.Laying.{laid-low, laid-high, laid-numbers}
 use borrow.Author.Needs.{needs}
 use Rattle.matching.proofs.search.visit.Statement.{statement}
 use Rattle.matching.proofs.search.visit.Tie as tie
+
+-- ---- the places of the body, from its end back
+
+abbrev need-at : tie.After-first → tie.After-need
+need-at c = c .before .before
+
+abbrev most-at : tie.After-first → tie.After-wide7
+most-at c = need-at c .before
+
+abbrev least-at : tie.After-first → tie.After-wide6
+least-at c = most-at c .before
+
+abbrev high-at : tie.After-first → tie.After-wide5
+high-at c = least-at c .before
+
+abbrev low-at : tie.After-first → tie.After-wide4
+low-at c = high-at c .before .before
+
+abbrev ahead-at : tie.After-first → tie.After-wide3
+ahead-at c = low-at c .before .before
+
+abbrev behind-at : tie.After-first → tie.After-wide2
+behind-at c = ahead-at c .before .before
+
+abbrev own-at : tie.After-first → tie.After-wide
+own-at c = behind-at c .before .before
+
+abbrev next-at : tie.After-first → tie.After-next
+next-at c = own-at c .before .before
+
+abbrev prior-at : tie.After-first → tie.After-prior
+prior-at c = next-at c .before
+
+abbrev start : tie.After-first → tie.Start
+start c = prior-at c .before .before .before .before
+
+-- ----
 
 prior-requires : tie.Need-prior-requires
 prior-requires c κs = search needs
@@ -77,23 +114,8 @@ wide-requires-7 c κs = search needs
 need-requires : tie.Need-need-requires
 need-requires c κs = search needs
 
-add-wide-2 : tie.Need-add-wide-2
-add-wide-2 c = search needs
-
-mul-wide-6 : tie.Need-mul-wide-6
-mul-wide-6 c = search needs
-
-shared-slice-read-wide-6 : tie.Need-shared-slice-read-wide-6
-shared-slice-read-wide-6 c = search needs
-
-wide-requires-8 : tie.Need-wide-requires-8
-wide-requires-8 c κs = search needs
-
 add-first : tie.Need-add-first
 add-first c = search needs
-
-add-first-2 : tie.Need-add-first-2
-add-first-2 c = search needs
 
 mul-first : tie.Need-mul-first
 mul-first c = search needs
@@ -111,7 +133,21 @@ first-requires : tie.Need-first-requires
 first-requires c κs = search needs
 
 returns : tie.Need-returns
-returns c = λ w. let L = w .laid in let few = w .ready .few in let k = (c .before .before .before .before .before .before .before .before .before .before .before .before .before .before .before .before .before .next) .ensures .inside in let h = (c .before .before .before .before .before .before .before .before .before .before .before .before .before .before .before .before .before .before .before .before .before .before .pre) .1 .0 in let s = L .slot ((c .before .before .before .before .before .before .before .before .before .before .before .before .before .before .before .before .before .before .before .before .before .before .args) .j) h in let eight : 11 * (c .before .before .before .before .before .before .before .before .before .before .before .before .before .before .before .before .before .before .before .before .before .before .args) .j + 11 - (11 * (c .before .before .before .before .before .before .before .before .before .before .before .before .before .before .before .before .before .before .before .before .before .before .args) .j + 3) ≡ 8 = omega arith in visited ((c .before .before .before .before .before .before .before .before .before .before .before .before .before .before .before .before .before .before .prior) .ensures) ((c .before .before .before .before .before .before .before .before .before .before .before .before .before .before .before .before .before .next) .ensures) ((c .before .before .before .before .before .before .before .before .before .before .before .before .before .before .before .wide) .ensures .0) ((c .before .before .before .before .before .before .before .before .before .before .before .before .before .wide2) .ensures .0) ((c .before .before .before .before .before .before .before .before .before .before .before .wide3) .ensures .0) ((c .before .before .before .before .before .before .before .before .before .wide4) .ensures .0 ∙ s .low) ((c .before .before .before .before .before .before .before .wide5) .ensures .0 ∙ L .slot _ k .high) ((c .before .before .before .before .before .before .wide6) .ensures .0) ((c .before .before .before .before .before .wide7) .ensures .0) ((c .before .before .before .before .need) .ensures) (first-laid s (omega (arith, L .size)) ((c .before .before .wide8) .ensures .0) eight ((c .first) .ensures))
+returns c = λ w.
+    let a = start c .args in
+    let s = w .laid .slot (a .j) (start c .pre .1 .0) in
+    let k = next-at c .next .ensures .inside in
+    let eleven : 11 * a .j + 11 - 11 * a .j ≡ 11 = omega arith in
+    visited (prior-at c .prior .ensures) (next-at c .next .ensures)
+    (own-at c .wide .ensures .0)
+    (behind-at c .wide2 .ensures .0)
+    (ahead-at c .wide3 .ensures .0)
+    (low-at c .wide4 .ensures .0 ∙ laid-low s)
+    (high-at c .wide5 .ensures .0 ∙ laid-high (w .laid .slot _ k))
+    (least-at c .wide6 .ensures .0)
+    (most-at c .wide7 .ensures .0)
+    (need-at c .need .ensures)
+    (c .first .ensures _ (laid-numbers s eleven))
 
 pub visit-spec : {M : Type 1} → statement M
 visit-spec =
@@ -140,12 +176,7 @@ visit-spec =
     wide-requires-6
     wide-requires-7
     need-requires
-    add-wide-2
-    mul-wide-6
-    shared-slice-read-wide-6
-    wide-requires-8
     add-first
-    add-first-2
     mul-first
     sub-first
     part-first-start

@@ -1,0 +1,44 @@
+-- `pattern::Slot::numbers_take` meets its contract: a slot's words are the last eight of its numbers.
+use native.Mathlib.Omega.{arith}
+use mathlib.Core.Path.{refl, _∙_}
+use Rattle.pattern.proofs.Numbers.{numbers-length, numbers-taken}
+use borrow.Author.Needs.{needs}
+use Rattle.pattern.proofs.slot.Slot.numbers_take.Statement.{statement}
+use Rattle.pattern.proofs.slot.Slot.numbers_take.Tie as tie
+
+returns : tie.Need-returns
+returns c = λ s N. absurd (omega (arith, numbers-length N, c .if1 .taken))
+
+sub-lists : tie.Need-sub-lists
+sub-lists c = search needs
+
+part-lists-start : tie.Need-part-lists-start
+part-lists-start c = search needs
+
+part-lists-end : tie.Need-part-lists-end
+part-lists-end c = search needs
+
+shared-slice-read-wide : tie.Need-shared-slice-read-wide
+shared-slice-read-wide c = search needs
+
+wide-requires : tie.Need-wide-requires
+wide-requires c κs = search needs
+
+lists-requires : tie.Need-lists-requires
+lists-requires c κs = search needs
+
+returns-2 : tie.Need-returns-2
+returns-2 c = λ s N. c .lists .ensures ∙ numbers-taken N _ (c .before .wide .ensures .0) refl
+
+pub numbers-take-spec : {M : Type 1} → statement M
+numbers-take-spec =
+    tie.close
+    (tie.spec
+    returns
+    sub-lists
+    part-lists-start
+    part-lists-end
+    shared-slice-read-wide
+    wide-requires
+    lists-requires
+    returns-2)
