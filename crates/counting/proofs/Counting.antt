@@ -5,7 +5,7 @@ use mathlib.Core.Path.{_≡_, refl, sym, ap, _∙_}
 use native.Mathlib.Nat.{min-eq-left, min-eq-right}
 use native.Mathlib.Decide.{decLe}
 use native.Mathlib.Omega.{arith}
-use lib.ListN.{length}
+use lib.ListN.{length, getD}
 use borrow.Author.Tests.{lt-ltb, le-ltb}
 use Rattle.pattern.specs.declared.Pattern.{Pattern}
 use Rattle.pattern.specs.Patterns.{slotAt}
@@ -16,9 +16,13 @@ use Rattle.counting.specs.Inputs.{Input}
 use Rattle.matching.specs.Laws.Sums.{total, total-same, total-none, rest, run-inside, run-past}
 use Rattle.matching.specs.Laws.Branches.{when, stands, ways}
 use Rattle.matching.specs.Laws.Cover.{far}
-use Rattle.counting.specs.Laws.Bound.{total-fits, far-bound}
+use Rattle.counting.specs.Laws.Bound.{total-fits}
 use Rattle.counting.specs.Numbers.{val}
-use Rattle.counting.specs.Steps.{marked, Marked, Room, Ended, Falling, Spread, Summable, Summed, size, stopAt, Holds}
+use Rattle.counting.specs.declared.window.Window.{Window}
+use Rattle.counting.specs.Steps.Fits.{fitted, Fitted}
+use Rattle.counting.specs.Steps.Plans.{Handed, Run, runPattern, runView}
+use Rattle.counting.specs.Steps.Rows.{Room, Ended, Falling, Spread, Summable, Summed, size, stopAt, Row}
+use Rattle.counting.proofs.Distances.{distance-step, far-bound}
 use Rattle.counting.proofs.Loops.{rest-stop}
 
 rest-shift : (u v : ℕ → ℕ) (first n : ℕ) → ((i : ℕ) → i < n → u i ≡ v (first + i + 1)) → (i : ℕ) → i ≤ n → rest u n i ≡ rest v (first + n + 1) (first + i + 1)
@@ -51,153 +55,208 @@ module _ (v : ℕ → ℕ) (first n : ℕ) (none : (q : ℕ) → first + n + 1 �
         (omega (arith, total-none (high + 1 - low) v (first + i + 1 + low + 1) (λ q y. none q (omega arith))))
   ]
 
-module _ (f : Pattern) (v : View) (first n more from : ℕ) where
+module _ (f : Pattern) (v : View) (w : Window) where
+  abbrev first : ℕ
+  first = w .first
+
   abbrev stop : ℕ → ℕ
-  stop = stopAt f first n more
+  stop = stopAt f w
 
-  pub fits-inside : {M : List ℕ} → Marked f v M → first + n ≤ v .places → (i j : ℕ) → j < f .count → i < size f n more j
-      → stands f v stop from j (first + i + 1) ≡ marked M (j * 20000 + first + i)
+  -- the sums of the row of slot j, with k slots after it
+  pub record Sums (k j : ℕ) (H L : List ℕ) : Type 0 where
+    pub sums : (i : ℕ) → i ≤ size f w j → val H L i ≡ rest (ways f v stop (w .from) k j) (stop j) (first + i + 1)
+
+  pub fits-inside : {T : List ℕ} → Fitted f v T → first + w .places ≤ v .places → (i j : ℕ) → j < f .count → i < size f w j
+      → stands f v stop (w .from) j (first + i + 1) ≡ fitted T (j * 20000 + first + i)
   unfolding stands stopAt size
-  fits-inside m short i j l h =
-      let a : first + i + 1 < first + size f n more j + 1 = omega arith in
+  fits-inside fit short i j l h =
+      let a : first + i + 1 < first + size f w j + 1 = omega arith in
       let d : j * 20000 + first + i ≡ j * 20000 + (first + i) = omega arith in
-      rw (lt-ltb (first + i + 1) (first + size f n more j + 1) a, d) (sym (m .mark j l (first + i) (omega arith)))
+      rw (lt-ltb (first + i + 1) (first + size f w j + 1) a, d) (sym (fit .fit j l (first + i) (omega arith)))
 
-  ways-none : (k j p : ℕ) → stop j ≤ p → ways f v stop from k j p ≡ 0
+  ways-none : (k j p : ℕ) → stop j ≤ p → ways f v stop (w .from) k j p ≡ 0
   unfolding ways when stands
   ways-none zero j p h = rw (le-ltb p (stop j) h)
   ways-none (suc k) j p h = rw (le-ltb p (stop j) h)
 
-  -- the row of slot j, with k slots after it, before it is summed
-  pub record Row (k j : ℕ) (H L : List ℕ) : Type 0 where
-    pub row : (i : ℕ) → i < size f n more j → val H L i ≡ ways f v stop from k j (first + i + 1)
-    pub stopped : val H L (size f n more j) ≡ 0
-
-  pub end-row : {j m : ℕ} {M H L : List ℕ} → Marked f v M → first + n ≤ v .places → j < f .count → m ≡ size f n more j
-      → Ended M (j * 20000 + first) first m from H L → Row zero j H L
+  pub end-row : {j m : ℕ} {T H L : List ℕ} → Fitted f v T → first + w .places ≤ v .places → j < f .count → m ≡ size f w j
+      → Ended T (j * 20000 + first) first m (w .from) H L → Row f v w zero j H L
   unfolding ways
-  end-row {j} mk short l q e = let d = rw q at e in record { row = λ i h. rw (fits-inside mk short i j l h) (d .row i h); stopped = d .stop }
+  end-row {j} fit short l q e = let d = rw q at e in record { row = λ i h. rw (fits-inside fit short i j l h) (d .row i h); stop = d .stop }
 
-  spread-row′ : {k j : ℕ} {M H L H′ L′ : List ℕ} → Marked f v M → first + n ≤ v .places → j < f .count
-      → slotAt f (suc j) .low ≤ slotAt f (suc j) .high → size f n more j ≤ size f n more (suc j) → Holds f v first n more from k (suc j) H L
-      → Spread M (j * 20000 + first) (slotAt f (suc j) .low) (slotAt f (suc j) .high) (size f n more j) (size f n more (suc j)) H L H′ L′ → Row (suc k) j H′ L′
+  spread-row′ : {k j : ℕ} {T H L H′ L′ : List ℕ} → Fitted f v T → first + w .places ≤ v .places → j < f .count
+      → slotAt f (suc j) .low ≤ slotAt f (suc j) .high → size f w j ≤ size f w (suc j) → Sums k (suc j) H L
+      → Spread T (j * 20000 + first) (slotAt f (suc j) .low) (slotAt f (suc j) .high) (size f w j) (size f w (suc j)) H L H′ L′ → Row f v w (suc k) j H′ L′
   unfolding ways stopAt
-  spread-row′ {k} {j} {M} {H} {L} mk short x l y s e =
-      let on = ways f v stop from k (suc j) in
-      let m = size f n more (suc j) in
+  spread-row′ {k} {j} {T} {H} {L} fit short x l y s e =
+      let on = ways f v stop (w .from) k (suc j) in
+      let m = size f w (suc j) in
       let lo = slotAt f (suc j) .low in
       let hi = slotAt f (suc j) .high in
       record {
         row = λ i h.
             let d : val H L (min (i + lo + 1) m) - val H L (min (i + hi + 2) m) ≡ total (hi + 1 - lo) on (first + i + 1 + lo + 1) =
             rw (s .sums (min (i + lo + 1) m) (omega arith), s .sums (min (i + hi + 2) m) (omega arith)) (window on first m (ways-none k (suc j)) i lo hi (omega arith) l) in
-            rw (fits-inside mk short i j x h, ← d) (e .row i h);
-        stopped = e .stop;
+            rw (fits-inside fit short i j x h, ← d) (e .row i h);
+        stop = e .stop;
       }
 
-  pub spread-row : {k j j′ low high a b : ℕ} {M H L H′ L′ : List ℕ} → Marked f v M → first + n ≤ v .places → j′ < f .count → j ≡ suc j′
-      → low ≡ slotAt f j .low → high ≡ slotAt f j .high → slotAt f j .low ≤ slotAt f j .high → a ≡ size f n more j′ → b ≡ size f n more j → a ≤ b
-      → Holds f v first n more from k j H L → Spread M (j′ * 20000 + first) low high a b H L H′ L′ → Row (suc k) j′ H′ L′
-  spread-row {j′ = j′} mk short x q el eh l ea eb y s e = spread-row′ mk short x (rw q at l) (rw (ea, eb, q) at y) (rw q at s) (rw (el, eh, ea, eb, q) at e)
+  pub spread-row : {k j j′ low high a b : ℕ} {T H L H′ L′ : List ℕ} → Fitted f v T → first + w .places ≤ v .places → j′ < f .count → j ≡ suc j′
+      → low ≡ slotAt f j .low → high ≡ slotAt f j .high → slotAt f j .low ≤ slotAt f j .high → a ≡ size f w j′ → b ≡ size f w j → a ≤ b
+      → Sums k j H L → Spread T (j′ * 20000 + first) low high a b H L H′ L′ → Row f v w (suc k) j′ H′ L′
+  spread-row {j′ = j′} fit short x q el eh l ea eb y s e = spread-row′ fit short x (rw q at l) (rw (ea, eb, q) at y) (rw q at s) (rw (el, eh, ea, eb, q) at e)
 
-  module _ {k j : ℕ} {H L : List ℕ} (r : Row k j H L) where
-    shift : (i : ℕ) → i ≤ size f n more j → rest (val H L) (size f n more j) i ≡ rest (ways f v stop from k j) (stop j) (first + i + 1)
+  module _ {k j : ℕ} {H L : List ℕ} (r : Row f v w k j H L) where
+    shift : (i : ℕ) → i ≤ size f w j → rest (val H L) (size f w j) i ≡ rest (ways f v stop (w .from) k j) (stop j) (first + i + 1)
     unfolding stopAt
-    shift = rest-shift (val H L) (ways f v stop from k j) first (size f n more j) (r .row)
+    shift = rest-shift (val H L) (ways f v stop (w .from) k j) first (size f w j) (r .row)
 
-    pub row-summable : {m : ℕ} → Input f v → j + k < f .count → n ≤ 20000 → m ≡ size f n more j → Summable m H L
+    pub row-summable : {m : ℕ} → Input f v → j + k < f .count → w .places ≤ 20000 → m ≡ size f w j → Summable m H L
     unfolding rest stopAt size
     row-summable ok h short q = rw q record {
-      stop = r .stopped;
-      fits = λ i l. rw (shift i l) (total-fits f v (gaps (ok .pattern)) (stop j - (first + i + 1)) k stop from j (first + i + 1) h (ok .pattern .few) (omega arith));
+      stop = r .stop;
+      fits = λ i l. rw (shift i l) (total-fits f v (gaps (ok .pattern)) (stop j - (first + i + 1)) k stop (w .from) j (first + i + 1) h (ok .pattern .few) (omega arith));
     }
 
-    pub row-holds : {m : ℕ} {H′ L′ : List ℕ} → m ≡ size f n more j → Summed m H L H′ L′ → Holds f v first n more from k j H′ L′
-    row-holds q s = let d = rw q at s in record { sums = λ i l. d .sums i l ∙ shift i l }
+    pub row-sums : {m : ℕ} {H′ L′ : List ℕ} → m ≡ size f w j → Summed m H L H′ L′ → Sums k j H′ L′
+    row-sums q s = let d = rw q at s in record { sums = λ i l. d .sums i l ∙ shift i l }
 
-  pub holds-falling : {k j m : ℕ} {H L : List ℕ} → m ≡ size f n more j → Holds f v first n more from k j H L → Falling m H L
+  pub row-falling : {k j m : ℕ} {H L : List ℕ} → m ≡ size f w j → Sums k j H L → Falling m H L
   unfolding stopAt
-  holds-falling {k} {j} {m} q s = rw q record {
+  row-falling {k} {j} {m} q s = rw q record {
     falls = λ a b x y. rw (s .sums a (omega arith), s .sums b y)
-        (rest-falls (ways f v stop from k j) (stop j) (first + a + 1) (first + b + 1) (omega arith) (omega arith));
+        (rest-falls (ways f v stop (w .from) k j) (stop j) (first + a + 1) (first + b + 1) (omega arith) (omega arith));
   }
 
--- ---- the loop over the slots: the slot j is done, its row has m places, and it is at most r from the first
+-- less room, in lists that are as long
+pub room-less : {n m : ℕ} {H L H′ L′ : List ℕ} → Room n H L → m ≤ n → length H′ ≡ length H → length L′ ≡ length L → Room m H′ L′
+room-less r h x y = let a = r .high in let b = r .low in record { high = omega arith; low = omega arith }
+
+-- ---- what a run over a window is given
+
+-- its numbers are small
+pub record Small (m reach : ℕ) (low high T : List ℕ) (w : Window) : Type 0 where
+  pub some : 1 ≤ m
+  pub few : m ≤ 16
+  pub near : reach ≤ 960
+  pub lows : length low ≡ 16
+  pub highs : length high ≡ 16
+  pub table : 320000 ≤ length T
+  pub short : w .first + w .places ≤ 20000
+  pub starts : w .starts ≤ w .places
+
+module _ {m reach : ℕ} {low high T : List ℕ} {w : Window} (g : Run m reach low high T w) where
+  abbrev handed : Handed (runPattern g) (runView g) reach low high T
+  handed = g .plan .handed
+
+  pub run-small : Small m reach low high T w
+  run-small =
+      let h = handed in
+      let ok = h .input .pattern in
+      let some = ok .some in
+      let short = h .input .short in
+      let inside = g .inside in
+      record {
+        some = some;
+        few = ok .few;
+        near = omega (arith, far-bound ok (m - 1) (omega arith), h .farthest);
+        lows = h .lows .long;
+        highs = h .highs .long;
+        table = h .table .size;
+        short = omega arith;
+        starts = g .starts;
+      }
+
+  -- both bounds of the gap before slot j
+  module _ {j : ℕ} (inside : j < m) where
+    pub run-low : {x : ℕ} → x ≡ getD low j 0 → x ≡ slotAt (runPattern g) j .low
+    run-low e = e ∙ handed .lows .gap j inside
+
+    pub run-high : {x : ℕ} → x ≡ getD high j 0 → x ≡ slotAt (runPattern g) j .high
+    run-high e = e ∙ handed .highs .gap j inside
+
+    pub run-gap : {x y : ℕ} → x ≡ getD low j 0 → y ≡ getD high j 0 → (x ≤ y) × (y ≤ 63)
+    run-gap ex ey = let a = run-low ex in let b = run-high ey in let h = gaps (handed .input .pattern) j inside in (omega arith, omega arith)
+
+-- ---- the loop over the slots: the slot j is done, its row has n places, and it is at most r from the first
 
 -- a slot that the run has come to: what can be reached there, and how many places its row has
-pub record Stage (f : Pattern) (n more j r m : ℕ) : Type 0 where
+pub record Stage (f : Pattern) (w : Window) (j r n : ℕ) : Type 0 where
   pub inside : j < f .count
   pub reach : r ≡ far f j
-  pub rows : m ≡ size f n more j
+  pub rows : n ≡ size f w j
 
-pub record Counting (f : Pattern) (v : View) (first n more from : ℕ) (H₀ L₀ : List ℕ) (j r m : ℕ) (H L : List ℕ) : Type 0 where
-  pub long : length H ≡ length H₀
-  pub long′ : length L ≡ length L₀
-  pub room : Room n H L
-  pub here : Stage f n more j r m
-  pub holds : Holds f v first n more from (f .count - 1 - j) j H L
+pub stage-small : {f : Pattern} {w : Window} {j r n : ℕ} → Accepted f → Stage f w j r n → (r ≤ 960) × (n ≤ w .places)
+unfolding size
+stage-small {j = j} ok s = let e = s .rows in (omega (arith, far-bound ok j (s .inside), s .reach), omega arith)
 
-pub counting-begin : {f : Pattern} {v : View} {first n more from r m : ℕ} {H L : List ℕ} → 1 ≤ f .count → Room n H L → r ≡ far f (f .count - 1)
-    → m ≡ size f n more (f .count - 1) → Holds f v first n more from 0 (f .count - 1) H L → Counting f v first n more from H L (f .count - 1) r m H L
-counting-begin {f} h room x y s = record {
-  long = refl;
-  long′ = refl;
-  room = room;
-  here = record { inside = omega arith; reach = x; rows = y };
-  holds = let e : f .count - 1 - (f .count - 1) ≡ 0 = omega arith in rw e s;
-}
+pub record Counting (f : Pattern) (v : View) (w : Window) (j r n : ℕ) (H L : List ℕ) : Type 0 where
+  pub room : Room (w .places) H L
+  pub here : Stage f w j r n
+  pub row : Row f v w (f .count - 1 - j) j H L
 
-far-suc : (f : Pattern) (i j : ℕ) → suc i ≡ j → far f j ≡ far f i + slotAt f j .high + 1
-unfolding far
-far-suc f i j e = rw (← e)
+-- the first stage: the last slot
+module _ {f : Pattern} (w : Window) (some : 1 ≤ f .count) {r n : ℕ} (er : r ≡ far f (f .count - 1)) (en : n ≡ min (w .places) (w .starts + r)) where
+  pub stage-begin : Stage f w (f .count - 1) r n
+  unfolding size
+  stage-begin = record { inside = omega arith; reach = er; rows = en ∙ ap (λ (z : ℕ). min (w .places) (w .starts + z)) er }
+
+  pub counting-begin : {v : View} {T H L : List ℕ} → Fitted f v T → w .first + w .places ≤ v .places → Room (w .places) H L
+      → Ended T ((f .count - 1) * 20000 + w .first) (w .first) n (w .from) H L → Counting f v w (f .count - 1) r n H L
+  counting-begin {v} fit inside room e = record {
+    room = room;
+    here = stage-begin;
+    row = let z : f .count - 1 - (f .count - 1) ≡ 0 = omega arith in rw z (end-row f v w fit inside (omega arith) (stage-begin .rows) e);
+  }
 
 -- one slot back: what can be reached, and how many places the row has
-module _ {f : Pattern} {n more j r m : ℕ} (c : Stage f n more j r m) (pos : 0 < j) {high : ℕ} (eh : high ≡ slotAt f j .high) where
+module _ {f : Pattern} {w : Window} {j r n : ℕ} (c : Stage f w j r n) (pos : 0 < j) {high : ℕ} (eh : high ≡ slotAt f j .high) where
   far-back : r ≡ far f (j - 1) + high + 1
-  far-back = omega (arith, far-suc f (j - 1) j (omega arith), c .reach)
+  far-back = omega (arith, distance-step (λ j. slotAt f j .high) (j - 1) j (omega arith), c .reach)
 
   pub reach-back : (high ≤ r) × (1 ≤ r - high) × (r - high - 1 ≡ far f (j - 1))
   reach-back = (omega (arith, far-back), omega (arith, far-back), omega (arith, far-back))
 
-  module _ {a : ℕ} (ea : a ≡ min n (more + (r - high - 1) + 1)) where
-    pub size-back : a ≡ size f n more (j - 1)
+  module _ {k : ℕ} (ek : k ≡ min (w .places) (w .starts + (r - high - 1))) where
+    pub stage-back : Stage f w (j - 1) (r - high - 1) k
     unfolding size
-    size-back = let x = reach-back .2 in ea ∙ ap (λ (z : ℕ). min n (more + z + 1)) x
+    stage-back = let i = c .inside in record {
+      inside = omega arith;
+      reach = reach-back .2;
+      rows = ek ∙ ap (λ (z : ℕ). min (w .places) (w .starts + z)) (reach-back .2);
+    }
 
-    pub size-less : (a ≤ m) × (m ≤ n)
+    pub size-less : (k ≤ n) × (n ≤ w .places)
     unfolding size
     size-less = let x = c .rows in let y = c .reach in let z = reach-back in (omega arith, omega arith)
 
--- what the next turn of the loop keeps
-module _ {f : Pattern} {v : View} {first n more from : ℕ} {H₀ L₀ : List ℕ} {j r m : ℕ} {H L : List ℕ}
-    (c : Counting f v first n more from H₀ L₀ j r m H L) (pos : 0 < j) {high : ℕ} (eh : high ≡ slotAt f j .high) where
-  module _ {a : ℕ} (ea : a ≡ min n (more + (r - high - 1) + 1)) where
-    pub counting-more : {H′ L′ : List ℕ} → length H′ ≡ length H → length L′ ≡ length L → Holds f v first n more from (suc (f .count - 1 - j)) (j - 1) H′ L′
-        → Counting f v first n more from H₀ L₀ (j - 1) (r - high - 1) a H′ L′
-    counting-more x y s =
-        let i = c .here .inside in
-        let rh = c .room .high in
-        let rl = c .room .low in
-        let less = size-less (c .here) pos eh ea in
-        record {
-          long = x ∙ c .long;
-          long′ = y ∙ c .long′;
-          room = record { high = omega arith; low = omega arith };
-          here = record { inside = omega arith; reach = reach-back (c .here) pos eh .2; rows = size-back (c .here) pos eh ea };
-          holds = let e : f .count - 1 - (j - 1) ≡ suc (f .count - 1 - j) = omega arith in rw e s;
-        }
+-- what a turn of the loop does: the row is summed, and spread to the slot before
+module _ {f : Pattern} {v : View} {w : Window} {j r n : ℕ} {H L : List ℕ} (c : Counting f v w j r n H L) (ok : Input f v) (inside : w .first + w .places ≤ v .places) where
+  pub counting-room : Room n H L
+  counting-room = room-less (c .room) (stage-small (ok .pattern) (c .here) .1) refl refl
 
-pub counted : {f : Pattern} {v : View} {first n more from : ℕ} {H₀ L₀ : List ℕ} {j r m : ℕ} {H L : List ℕ} → Counting f v first n more from H₀ L₀ j r m H L → j ≤ 0
-    → Holds f v first n more from (f .count - 1) 0 H L
-counted {f} {j = j} c h = let e : 0 ≡ j = omega arith in let d : f .count - 1 ≡ f .count - 1 - j = omega arith in rw (d, e) (c .holds)
+  pub counting-summable : Summable n H L
+  counting-summable =
+      let i = c .here .inside in
+      let s = ok .short in
+      row-summable f v w (c .row) ok (omega arith) (omega arith) (c .here .rows)
 
-pub size-of : (f : Pattern) (n more r j : ℕ) {m : ℕ} → m ≡ min n (more + r + 1) → r ≡ far f j → (m ≡ size f n more j) × (m ≤ n)
-unfolding size
-size-of f n more r j e q = (e ∙ ap (λ (z : ℕ). min n (more + z + 1)) q, omega arith)
+  module _ {H′ L′ : List ℕ} (s : Summed n H L H′ L′) where
+    pub counting-falling : Falling n H′ L′
+    counting-falling = row-falling f v w (c .here .rows) (row-sums f v w (c .row) (c .here .rows) s)
 
-pub room-less : {n m : ℕ} {H L H′ L′ : List ℕ} → Room n H L → m ≤ n → length H′ ≡ length H → length L′ ≡ length L → Room m H′ L′
-room-less r h x y = let rh = r .high in let rl = r .low in record { high = omega arith; low = omega arith }
+    module _ (pos : 0 < j) {low high : ℕ} (el : low ≡ slotAt f j .low) (eh : high ≡ slotAt f j .high) {k : ℕ} (ek : k ≡ min (w .places) (w .starts + (r - high - 1))) where
+      pub counting-more : {T H″ L″ : List ℕ} → Fitted f v T → length H″ ≡ length H → length L″ ≡ length L
+          → Spread T ((j - 1) * 20000 + w .first) low high k n H′ L′ H″ L″ → Counting f v w (j - 1) (r - high - 1) k H″ L″
+      counting-more fit x y p =
+          let i = c .here .inside in
+          let back = stage-back (c .here) pos eh ek in
+          let d : f .count - 1 - (j - 1) ≡ suc (f .count - 1 - j) = omega arith in
+          record {
+            room = room-less (c .room) (omega arith) x y;
+            here = back;
+            row = rw d (spread-row f v w {j = j} {j′ = j - 1} fit inside (omega arith) (omega arith) el eh (gaps (ok .pattern) j i .0) (back .rows) (c .here .rows) (size-less (c .here) pos eh ek .0) (row-sums f v w (c .row) (c .here .rows) s) p);
+          }
 
--- no slot is further than this
-pub reach-bound : {f : Pattern} → Accepted f → (j : ℕ) → j < f .count → far f j ≤ 960
-reach-bound ok j h = let few = ok .few in omega (arith, far-bound ok j h)
+pub counted : {f : Pattern} {v : View} {w : Window} {j r n : ℕ} {H L : List ℕ} → Counting f v w j r n H L → j ≤ 0 → Row f v w (f .count - 1) 0 H L
+counted {f} {j = j} c h = let e : 0 ≡ j = omega arith in let d : f .count - 1 ≡ f .count - 1 - j = omega arith in rw (d, e) (c .row)

@@ -1,7 +1,9 @@
 pub mod Carry
 pub mod Loops
+pub mod Fitting
+pub mod Distances
 pub mod Counting
-pub mod Passes
+pub mod Columns
 pub mod Reaching
 pub mod Tabling
 pub mod Walking

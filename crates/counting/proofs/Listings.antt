@@ -14,38 +14,48 @@ use Rattle.matching.specs.Written.{written}
 use Rattle.matching.specs.Laws.Collections.{every-map}
 use Rattle.matching.specs.Laws.Enumeration.{occurrences-occur}
 use Rattle.matching.specs.Laws.Sums.{gather}
-use Rattle.matching.specs.Laws.Branches.{branches, length-branches, tree, forest, occurrences-forest}
-use Rattle.matching.specs.Laws.Cover.{near, width, limit, least, starting, covers-all, occurrences-each}
+use Rattle.matching.specs.Laws.Branches.{branches, length-branches, ways, tree, forest, occurrences-forest}
+use Rattle.matching.specs.Laws.Cover.{width, limit, least, covers-all, occurrences-each}
+use Rattle.counting.specs.declared.window.Window.{Window}
 use Rattle.counting.specs.Inputs.{Input}
 use Rattle.counting.specs.Laws.Inputs.{gaps}
-use Rattle.counting.specs.Steps.{Marked, size, stopAt, free}
-use Rattle.counting.specs.Tables.{rowsOf, rowsAt, Tabled}
-use Rattle.counting.specs.Walks.{run, put, Bounds, Leads, Walk, Walked}
 use Rattle.counting.specs.Laws.Runs.{run-one, run-skip, run-more, run-part, length-empty, put-append, put-written}
-use Rattle.counting.proofs.Passes.{start-skip, stop-whole, stop-each, free-bounds}
+use Rattle.counting.specs.Steps.Fits.{Fitted}
+use Rattle.counting.specs.Steps.Plans.{Handed, unbound}
+use Rattle.counting.specs.Steps.Rows.{size, stopAt}
+use Rattle.counting.specs.Steps.Tables.{rowsOf, rowsAt, Tabled}
+use Rattle.counting.specs.Steps.Walks.{run, put, Leads, Walk, Walked}
+use Rattle.counting.proofs.Columns.{allOf, startAt, size-all, stop-all, stop-start, from-start, starts-none}
+use Rattle.counting.proofs.Distances.{unbound-spans}
 use Rattle.counting.proofs.Tabling.{gather-shift, rows-past, rows-last, rows-step, rows-child}
 
 -- ---- a window's table leads through its rows
 
-module _ (f : Pattern) (v : View) (first n more from : ℕ) where
+module _ (f : Pattern) (v : View) (w : Window) where
+  abbrev first : ℕ
+  first = w .first
+
   abbrev rows : ℕ → ℕ → ℕ → List (List ℕ)
-  rows = rowsOf f v first n more from
+  rows = rowsOf f v w
 
   step-at : (j j⁺ k k⁺ : ℕ) {low high : ℕ} → j⁺ ≡ suc j → k⁺ ≡ suc k → low ≡ slotAt f j⁺ .low → high ≡ slotAt f j⁺ .high → (x : ℕ) → (rows k⁺ j x ≡ [] → ⊥)
       → rows k⁺ j x ≡ map (λ r. (first + x + 1) ∷ r) (run (rows k j⁺) (x + low + 1) (x + high + 1 + 1))
-  step-at j j⁺ k k⁺ ej ek el eh x h = rw (ek, ej) (rows-step f v first n more from k j (rw ej at el) (rw ej at eh) x (rw ek at h))
+  step-at j j⁺ k k⁺ ej ek el eh x h = rw (ek, ej) (rows-step f v w k j (rw ej at el) (rw ej at eh) x (rw ek at h))
 
   child-at : (j j⁺ k k⁺ : ℕ) {low high : ℕ} → j⁺ ≡ suc j → k⁺ ≡ suc k → low ≡ slotAt f j⁺ .low → high ≡ slotAt f j⁺ .high → (x : ℕ) → (rows k⁺ j x ≡ [] → ⊥)
-      → x + low + 1 ≤ size f n more j⁺
-  child-at j j⁺ k k⁺ ej ek el eh x h = rw ej (rows-child f v first n more from k j (rw ej at el) (rw ej at eh) x (rw ek at h))
+      → x + low + 1 ≤ size f w j⁺
+  child-at j j⁺ k k⁺ ej ek el eh x h = rw ej (rows-child f v w k j (rw ej at el) (rw ej at eh) x (rw ek at h))
 
   last-at : (j k : ℕ) → k ≡ 0 → (x : ℕ) → (rows k j x ≡ [] → ⊥) → rows k j x ≡ ((first + x + 1) ∷ []) ∷ []
-  last-at j k ek x h = rw ek (rows-last f v first n more from j x (rw ek at h))
+  last-at j k ek x h = rw ek (rows-last f v w j x (rw ek at h))
 
-  pub leading : {low high N : List ℕ} → Input f v → first + n ≤ v .places → Tabled f v first n more from 0 N → Bounds f (λ j. slotAt f j .low) low → Bounds f (λ j. slotAt f j .high) high
-      → 320016 ≤ length N → Leads (f .count) first low high N (size f n more) (rowsAt f v first n more from)
+  pub leading : {reach : ℕ} {low high T N : List ℕ} → Handed f v reach low high T → first + w .places ≤ v .places → Tabled f v w 0 N
+      → 320016 ≤ length N → Leads (f .count) first low high N (size f w) (rowsAt f v w)
   unfolding size
-  leading ok inside table bl bh long =
+  leading g inside table long =
+      let ok = g .input in
+      let bl = g .lows in
+      let bh = g .highs in
       let short = ok .short in
       record {
         few = ok .pattern .few;
@@ -55,9 +65,9 @@ module _ (f : Pattern) (v : View) (first n more from : ℕ) where
         inside = λ j h. omega arith;
         next = λ j h i l. table .next j (omega arith) h i l;
         last = λ j e x h. last-at j (f .count - 1 - j) (omega arith) x h;
-        step = λ j l x h. step-at j (j + 1) (f .count - 1 - (j + 1)) (f .count - 1 - j) (omega arith) (omega arith) (bl .bound (j + 1) l) (bh .bound (j + 1) l) x h;
-        child = λ j l x h. child-at j (j + 1) (f .count - 1 - (j + 1)) (f .count - 1 - j) (omega arith) (omega arith) (bl .bound (j + 1) l) (bh .bound (j + 1) l) x h;
-        gap = λ j l. let g = gaps (ok .pattern) (j + 1) l in let a = bl .bound (j + 1) l in let b = bh .bound (j + 1) l in (omega arith, omega arith);
+        step = λ j l x h. step-at j (j + 1) (f .count - 1 - (j + 1)) (f .count - 1 - j) (omega arith) (omega arith) (bl .gap (j + 1) l) (bh .gap (j + 1) l) x h;
+        child = λ j l x h. child-at j (j + 1) (f .count - 1 - (j + 1)) (f .count - 1 - j) (omega arith) (omega arith) (bl .gap (j + 1) l) (bh .gap (j + 1) l) x h;
+        gap = λ j l. let g = gaps (ok .pattern) (j + 1) l in let a = bl .gap (j + 1) l in let b = bh .gap (j + 1) l in (omega arith, omega arith);
       }
 
 -- ---- what is written
@@ -69,62 +79,58 @@ map-same : (row : List ℕ) (R : List (List ℕ)) → map (λ s. take 0 row ++ s
 map-same row [] = refl
 map-same row (r ∷ R) = ap (λ (T : List (List ℕ)). r ∷ T) (map-same row R)
 
--- ---- one table of the whole text
+-- ---- one table of all places
 
-size-whole : (f : Pattern) (n : ℕ) → size f n n 0 ≡ n
-unfolding size
-size-whole f n = omega arith
+module _ {f : Pattern} {v : View} (ok : Input f v) (free : unbound f (v .places) ≡ true) where
+  abbrev allRows : ℕ → ℕ → List (List ℕ)
+  allRows = rowsAt f v (allOf (v .places))
 
-module _ {f : Pattern} {v : View} (ok : Input f v) (loose : free f v ≡ true) where
-  abbrev wholeRows : ℕ → ℕ → List (List ℕ)
-  wholeRows = rowsAt f v 0 (v .places) (v .places) 0
-
-  whole-rows : run (wholeRows 0) 0 (v .places + 1) ≡ occurrencesIn f v
+  all-rows : run (allRows 0) 0 (v .places + 1) ≡ occurrencesIn f v
   unfolding run forest tree rowsOf
-  whole-rows =
-      let b = free-bounds f v loose in
+  all-rows =
       let n = v .places in
-      let e : stopAt f 0 n n ≡ (λ j. n + 1) = fun-ext (stop-whole ok) in
-      let z : f .count - 1 - 0 ≡ f .count - 1 = omega arith in
+      let b = unbound-spans f n free in
+      let st = stopAt f (allOf n) in
+      let k = f .count - 1 - 0 in
+      let e : st ≡ (λ j. n + 1) = fun-ext (stop-all f n) in
+      let z : k ≡ f .count - 1 = omega arith in
       let d : n - 0 ≡ n = omega arith in
       let all = occurrences-forest f v (λ p j. n + 1) (λ p. 0) (covers-all f v (ok .pattern .some) (b .0) (b .1)) in
-      let shift : gather (wholeRows 0) (places 0 n) ≡ gather (branches f v (stopAt f 0 n n) 0 (f .count - 1 - 0) 0) (places 1 n) =
-      sym (gather-shift n (branches f v (stopAt f 0 n n) 0 (f .count - 1 - 0) 0) 0 0 1 (omega arith)) in
-      run-skip (wholeRows 0) 0 n (n + 1) (omega arith) (omega arith) (λ q x y. rows-past f v 0 n n 0 (f .count - 1 - 0) 0 q (rw (size-whole f n) x))
-      ∙ ap (λ (k : ℕ). gather (wholeRows 0) (places 0 k)) d
-      ∙ shift
-      ∙ ap (λ (st : ℕ → ℕ). gather (branches f v st 0 (f .count - 1 - 0) 0) (places 1 n)) e
-      ∙ ap (λ (k : ℕ). gather (branches f v (λ j. n + 1) 0 k 0) (places 1 n)) z
+      run-skip (allRows 0) 0 n (n + 1) (omega arith) (omega arith) (λ q x y. rows-past f v (allOf n) k 0 q (rw (size-all f n) x))
+      ∙ ap (λ (c : ℕ). gather (allRows 0) (places 0 c)) d
+      ∙ sym (gather-shift n (branches f v st 0 k 0) 0 0 1 (omega arith))
+      ∙ ap (λ (s : ℕ → ℕ). gather (branches f v s 0 k 0) (places 1 n)) e
+      ∙ ap (λ (c : ℕ). gather (branches f v (λ j. n + 1) 0 c 0) (places 1 n)) z
       ∙ sym all
 
-  module _ {low high N : List ℕ} (l : List ℕ) (leads : Leads (f .count) 0 low high N (size f (v .places) (v .places)) wholeRows) (room : length (occurrencesIn f v) * f .count ≤ length l) where
-    pub whole-walk : Walk (f .count) 0 low high N 0 0 (v .places) 0 (length l)
-    whole-walk =
+  module _ {low high N : List ℕ} (l : List ℕ) (leads : Leads (f .count) 0 low high N (size f (allOf (v .places))) allRows) (room : length (occurrencesIn f v) * f .count ≤ length l) where
+    pub all-walk : Walk (f .count) 0 low high N 0 0 (v .places) 0 (length l)
+    all-walk =
         let some = ok .pattern .some in
         let short = ok .short in
         record {
-          n = size f (v .places) (v .places);
-          rows = wholeRows;
+          n = size f (allOf (v .places));
+          rows = allRows;
           leads = leads;
           slot = omega arith;
           start = omega arith;
           order = omega arith;
           near = omega arith;
           room = length (occurrencesIn f v);
-          fits = rw whole-rows (omega arith);
+          fits = rw all-rows (omega arith);
           wide = room;
         }
 
-    pub whole-written : {row : List ℕ} {r : ℕ} {l′ : List ℕ} → Walked whole-walk row l r l′ → l′ ≡ written (f .count) (occurrencesIn f v) l
-    unfolding whole-walk
-    whole-written {row} d =
+    pub all-written : {row : List ℕ} {r : ℕ} {l′ : List ℕ} → Walked all-walk row l r l′ → l′ ≡ written (f .count) (occurrencesIn f v) l
+    unfolding all-walk
+    all-written {row} d =
         d .list
-        ∙ ap (λ (R : List (List ℕ)). put (f .count) 0 R l) (map-same row (run (wholeRows 0) 0 (v .places + 1)) ∙ whole-rows)
+        ∙ ap (λ (R : List (List ℕ)). put (f .count) 0 R l) (map-same row (run (allRows 0) 0 (v .places + 1)) ∙ all-rows)
         ∙ put-written (occurrencesIn f v) (f .count) l (every-long f v) room
 
 -- ---- a table for each first place
 
--- the rows with the first place x + 1
+-- the occurrences with the first place x + 1
 unfoldable pub startRows : Pattern → View → ℕ → List (List ℕ)
 startRows f v x = tree f v (limit f v) (least f) (x + 1)
 
@@ -140,8 +146,8 @@ unfolding run gather places put
 listing-begin = record { long = refl; inside = omega arith; number = refl; list = refl }
 
 module _ {f : Pattern} {v : View} (ok : Input f v) where
-  start-length : (i : ℕ) → length (startRows f v i) ≡ starting f v (i + 1)
-  unfolding startRows tree starting
+  start-length : (i : ℕ) → length (startRows f v i) ≡ ways f v (limit f v (i + 1)) (least f (i + 1)) (f .count - 1) 0 (i + 1)
+  unfolding startRows tree
   start-length i = length-branches f v (limit f v (i + 1)) (least f (i + 1)) (f .count - 1) 0 (i + 1)
 
   each-rows : run (startRows f v) 0 (v .places) ≡ occurrencesIn f v
@@ -178,33 +184,32 @@ module _ {f : Pattern} {v : View} (ok : Input f v) where
                 ∙ ap (λ (R : List (List ℕ)). put (f .count) 0 R l) (sym u);
           }
 
-      -- no row starts where the first slot is not marked
-      pub listing-skip : {M : List ℕ} → Marked f v M → (getD M i 0 ≡ 1 → ⊥) → Listing f v l (i + 1) rows l′
+      pub listing-skip : {T : List ℕ} → Fitted f v T → (getD T i 0 ≡ 1 → ⊥) → Listing f v l (i + 1) rows l′
       unfolding put
-      listing-skip mk off =
-          let e : startRows f v i ≡ [] = length-empty (startRows f v i) (omega (arith, start-length i, start-skip ok mk i inside off)) in
+      listing-skip fit off =
+          let e : startRows f v i ≡ [] = length-empty (startRows f v i) (omega (arith, start-length i, starts-none ok fit i inside off (f .count - 1) (limit f v (i + 1)) (least f (i + 1)))) in
           listing-past refl (rw e (omega arith)) (rw e refl)
 
-      module _ {k w from : ℕ} (ew : w ≡ width f) (ek : k ≡ min w (v .places - i)) (ef : from ≡ i + f .least) where
+      module _ {k span from : ℕ} (es : span ≡ width f) (ek : k ≡ min span (v .places - i)) (ef : from ≡ i + f .least) where
         abbrev windowRows : ℕ → ℕ → List (List ℕ)
-        windowRows = rowsAt f v i k 0 from
+        windowRows = rowsAt f v (startAt i k from)
 
         window-rows : run (windowRows 0) 0 1 ≡ startRows f v i
-        unfolding rowsOf startRows tree least
+        unfolding rowsOf startRows tree
         window-rows =
             let a : i + 0 + 1 ≡ i + 1 = omega arith in
-            let x : stopAt f i k 0 ≡ limit f v (i + 1) = fun-ext (stop-each ok i k w ew ek) in
-            let y : i + 1 + f .least - 1 ≡ from = omega arith in
+            let x : stopAt f (startAt i k from) ≡ limit f v (i + 1) = fun-ext (stop-start f v i k span from es ek) in
+            let y = from-start f v i k span from es ek ef in
             let z : f .count - 1 - 0 ≡ f .count - 1 = omega arith in
             run-one (windowRows 0) 0 ∙ rw (a, x, y, z)
 
-        module _ {low high N : List ℕ} (leads : Leads (f .count) i low high N (size f k 0) windowRows) (room : length (occurrencesIn f v) * f .count ≤ length l) where
+        module _ {low high N : List ℕ} (leads : Leads (f .count) i low high N (size f (startAt i k from)) windowRows) (room : length (occurrencesIn f v) * f .count ≤ length l) where
           pub window-walk : Walk (f .count) i low high N 0 0 0 rows (length l′)
           window-walk =
               let some = ok .pattern .some in
               let long = s .long in
               record {
-                n = size f k 0;
+                n = size f (startAt i k from);
                 rows = windowRows;
                 leads = leads;
                 slot = omega arith;

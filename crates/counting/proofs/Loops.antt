@@ -3,21 +3,19 @@ use Prim.Native.Nat.{ℕ, suc, _+_, _-_, _*_, _^_, _≤_, _<_, min}
 use mathlib.Core.List.{List}
 use mathlib.Core.Bool.{Bool, true, false, _&&_}
 use mathlib.Core.Path.{_≡_, refl, sym, ap, _∙_}
-use native.Mathlib.Nat.{sub-self}
+use native.Mathlib.Nat.{sub-self, lt-of-le-of-lt}
 use native.Mathlib.Decide.{ℕ-discrete}
 use native.Mathlib.Omega.{arith}
 use lib.ListN.{length, getD, set, length-set}
 use lib.Seq.{getD-set-same, getD-set-other}
-use lib.Dec.{eqb, leb}
+use lib.Dec.{leb}
 use borrow.Author.Tests.{eq-eqb, ne-eqb, le-leb, lt-leb}
 use borrow.Author.Count.{below-more}
-use Rattle.pattern.specs.declared.slot.Slot.{Slot}
-use Rattle.pattern.specs.Patterns.{takes}
-use Rattle.matching.specs.Occurrence.{takesAt}
-use Rattle.matching.specs.Laws.Sums.{total, rest, rest-step}
+use Rattle.matching.specs.Laws.Sums.{total, total-split, rest, rest-step}
 use Rattle.matching.specs.Laws.Branches.{when}
 use Rattle.counting.specs.Numbers.{val}
-use Rattle.counting.specs.Steps.{marked, SlotMarked, Room, Ended, Falling, Spread, Summable, Summed}
+use Rattle.counting.specs.Steps.Fits.{fitted}
+use Rattle.counting.specs.Steps.Rows.{Room, Ended, Falling, Spread, Summable, Summed}
 
 -- ---- a store to both halves
 
@@ -99,18 +97,18 @@ module _ {b : Bool} (from p : ℕ) where
   unfolding when
   ending-no e = rw e
 
-pub record Ending (M : List ℕ) (at first n from : ℕ) (H₀ L₀ : List ℕ) (i : ℕ) (H L : List ℕ) : Type 0 where
+pub record Ending (T : List ℕ) (at first n from : ℕ) (H₀ L₀ : List ℕ) (i : ℕ) (H L : List ℕ) : Type 0 where
   pub high : length H ≡ length H₀
   pub low : length L ≡ length L₀
   pub inside : i ≤ n
-  pub row : (k : ℕ) → k < i → val H L k ≡ when (marked M (at + k) && leb from (first + k + 1)) 1
+  pub row : (k : ℕ) → k < i → val H L k ≡ when (fitted T (at + k) && leb from (first + k + 1)) 1
 
-pub end-begin : {M : List ℕ} {at first n from : ℕ} {H L : List ℕ} → Ending M at first n from H L 0 H L
+pub end-begin : {T : List ℕ} {at first n from : ℕ} {H L : List ℕ} → Ending T at first n from H L 0 H L
 end-begin = record { high = refl; low = refl; inside = omega arith; row = λ k h. absurd (omega arith) }
 
-module _ {M : List ℕ} {at first n from : ℕ} {H₀ L₀ : List ℕ} {i : ℕ} {H L : List ℕ} (s : Ending M at first n from H₀ L₀ i H L) where
-  pub end-more : Room n H₀ L₀ → i < n → (l : ℕ) → l ≡ when (marked M (at + i) && leb from (first + i + 1)) 1
-      → Ending M at first n from H₀ L₀ (i + 1) (set H i 0) (set L i l)
+module _ {T : List ℕ} {at first n from : ℕ} {H₀ L₀ : List ℕ} {i : ℕ} {H L : List ℕ} (s : Ending T at first n from H₀ L₀ i H L) where
+  pub end-more : Room n H₀ L₀ → i < n → (l : ℕ) → l ≡ when (fitted T (at + i) && leb from (first + i + 1)) 1
+      → Ending T at first n from H₀ L₀ (i + 1) (set H i 0) (set L i l)
   end-more room h l e =
       let b = s .high in
       let c = s .low in
@@ -123,7 +121,7 @@ module _ {M : List ℕ} {at first n from : ℕ} {H₀ L₀ : List ℕ} {i : ℕ}
         row = below-more _ i (λ k x. val-other H L i 0 l k (λ q. omega arith) ∙ s .row k x) (val-same H L i 0 l (omega arith) (omega arith) ∙ omega arith);
       }
 
-  pub ended : Room n H₀ L₀ → n ≤ i → Ended M at first n from (set H n 0) (set L n 0)
+  pub ended : Room n H₀ L₀ → n ≤ i → Ended T at first n from (set H n 0) (set L n 0)
   ended room h =
       let b = s .high in
       let c = s .low in
@@ -137,21 +135,21 @@ module _ {M : List ℕ} {at first n from : ℕ} {H₀ L₀ : List ℕ} {i : ℕ}
 -- ---- a slot's row: done below i, and the sums of the next slot's row from i on
 
 abbrev pub spreadAt : List ℕ → ℕ → ℕ → ℕ → ℕ → List ℕ → List ℕ → ℕ → ℕ
-spreadAt M at low high m H L i = when (marked M (at + i)) (val H L (min (i + low + 1) m) - val H L (min (i + high + 2) m))
+spreadAt T at low high m H L i = when (fitted T (at + i)) (val H L (min (i + low + 1) m) - val H L (min (i + high + 2) m))
 
-pub record Spreading (M : List ℕ) (at low high n m : ℕ) (H₀ L₀ : List ℕ) (i : ℕ) (H L : List ℕ) : Type 0 where
+pub record Spreading (T : List ℕ) (at low high n m : ℕ) (H₀ L₀ : List ℕ) (i : ℕ) (H L : List ℕ) : Type 0 where
   pub long : length H ≡ length H₀
   pub long′ : length L ≡ length L₀
   pub inside : i ≤ n
-  pub done : (k : ℕ) → k < i → val H L k ≡ spreadAt M at low high m H₀ L₀ k
+  pub done : (k : ℕ) → k < i → val H L k ≡ spreadAt T at low high m H₀ L₀ k
   pub todo : (k : ℕ) → i ≤ k → val H L k ≡ val H₀ L₀ k
 
-pub spread-begin : {M : List ℕ} {at low high n m : ℕ} {H L : List ℕ} → Spreading M at low high n m H L 0 H L
+pub spread-begin : {T : List ℕ} {at low high n m : ℕ} {H L : List ℕ} → Spreading T at low high n m H L 0 H L
 spread-begin = record { long = refl; long′ = refl; inside = omega arith; done = λ k h. absurd (omega arith); todo = λ k h. refl }
 
-module _ {M : List ℕ} {at low high n m : ℕ} {H₀ L₀ : List ℕ} {i : ℕ} {H L : List ℕ} (s : Spreading M at low high n m H₀ L₀ i H L) (x : i < n) (fit : n ≤ m) where
-  pub spread-more : Room m H₀ L₀ → (h l : ℕ) → h * 2 ^ 64 + l ≡ spreadAt M at low high m H₀ L₀ i
-      → Spreading M at low high n m H₀ L₀ (i + 1) (set H i h) (set L i l)
+module _ {T : List ℕ} {at low high n m : ℕ} {H₀ L₀ : List ℕ} {i : ℕ} {H L : List ℕ} (s : Spreading T at low high n m H₀ L₀ i H L) (x : i < n) (fit : n ≤ m) where
+  pub spread-more : Room m H₀ L₀ → (h l : ℕ) → h * 2 ^ 64 + l ≡ spreadAt T at low high m H₀ L₀ i
+      → Spreading T at low high n m H₀ L₀ (i + 1) (set H i h) (set L i l)
   spread-more room h l e =
       let b = s .long in
       let c = s .long′ in
@@ -170,20 +168,20 @@ module _ {M : List ℕ} {at low high n m : ℕ} {H₀ L₀ : List ℕ} {i : ℕ}
     pub spread-order : Falling m H₀ L₀ → val H L b ≤ val H L a
     spread-order f = rw (s .todo a (omega arith), s .todo b (omega arith)) (f .falls a b (omega arith) (omega arith))
 
-    pub spread-take : (v : ℕ) → getD M (at + i) 0 ≡ 1 → v ≡ val H L a - val H L b → v ≡ spreadAt M at low high m H₀ L₀ i
+    pub spread-take : (v : ℕ) → getD T (at + i) 0 ≡ 1 → v ≡ val H L a - val H L b → v ≡ spreadAt T at low high m H₀ L₀ i
     unfolding when
     spread-take v q d =
-        let y = eq-eqb (getD M (at + i) 0) 1 q in
+        let y = eq-eqb (getD T (at + i) 0) 1 q in
         let za : val H L a ≡ val H₀ L₀ (min (i + low + 1) m) = s .todo a (omega arith) ∙ ap (val H₀ L₀) ea in
         let zb : val H L b ≡ val H₀ L₀ (min (i + high + 2) m) = s .todo b (omega arith) ∙ ap (val H₀ L₀) eb in
         rw y (omega arith)
 
-pub spread-skip : (M : List ℕ) (at low high m : ℕ) (H L : List ℕ) (i : ℕ) → (getD M (at + i) 0 ≡ 1 → ⊥) → 0 * 2 ^ 64 + 0 ≡ spreadAt M at low high m H L i
+pub spread-skip : (T : List ℕ) (at low high m : ℕ) (H L : List ℕ) (i : ℕ) → (getD T (at + i) 0 ≡ 1 → ⊥) → 0 * 2 ^ 64 + 0 ≡ spreadAt T at low high m H L i
 unfolding when
-spread-skip M at low high m H L i q = rw (ne-eqb (getD M (at + i) 0) 1 q)
+spread-skip T at low high m H L i q = rw (ne-eqb (getD T (at + i) 0) 1 q)
 
-pub spreaded : {M : List ℕ} {at low high n m : ℕ} {H₀ L₀ : List ℕ} {i : ℕ} {H L : List ℕ} → Spreading M at low high n m H₀ L₀ i H L → n ≤ m → Room m H₀ L₀ → n ≤ i
-    → Spread M at low high n m H₀ L₀ (set H n 0) (set L n 0)
+pub spreaded : {T : List ℕ} {at low high n m : ℕ} {H₀ L₀ : List ℕ} {i : ℕ} {H L : List ℕ} → Spreading T at low high n m H₀ L₀ i H L → n ≤ m → Room m H₀ L₀ → n ≤ i
+    → Spread T at low high n m H₀ L₀ (set H n 0) (set L n 0)
 spreaded {n = n} {H = H} {L = L} s fit room h =
     let b = s .long in
     let c = s .long′ in
@@ -194,33 +192,13 @@ spreaded {n = n} {H = H} {L = L} s fit room h =
       stop = val-same H L n 0 0 (omega arith) (omega arith);
     }
 
--- ---- the marks of a slot: done below i
+-- ---- the sum of a row: s is that of its first i numbers
 
--- the word at index i is that at place i + 1
-pub word-at : (s : Slot) (t : List ℕ) (i : ℕ) {r : Bool} → r ≡ takes s (getD t i 0) → r ≡ takesAt s t (i + 1)
-word-at s t i e = let z : i + 1 - 1 ≡ i = omega arith in rw z e
+module _ (u : ℕ → ℕ) (n i : ℕ) {s : ℕ} (e : s ≡ total i u 0) (h : i < n) where
+  pub total-more : s + u i ≡ total (i + 1) u 0
+  unfolding total
+  total-more = omega (arith, total-split i 1 (i + 1) u 0 i refl (omega arith))
 
-pub record Marking (fits : ℕ → Bool) (at : ℕ) (M₀ : List ℕ) (i : ℕ) (M : List ℕ) : Type 0 where
-  pub long : length M ≡ length M₀
-  pub here : (k : ℕ) → k < i → marked M (at + k) ≡ fits (k + 1)
-  pub before : (k : ℕ) → k < at → getD M k 0 ≡ getD M₀ k 0
-
-pub mark-begin : {fits : ℕ → Bool} {at : ℕ} {M : List ℕ} → Marking fits at M 0 M
-mark-begin = record { long = refl; here = λ k h. absurd (omega arith); before = λ k h. refl }
-
-pub mark-more : {fits : ℕ → Bool} {n at : ℕ} {M₀ : List ℕ} {i : ℕ} {M : List ℕ} → Marking fits at M₀ i M
-    → at + n ≤ length M₀ → i < n → {r : Bool} (v : ℕ) → r ≡ fits (i + 1) → eqb v 1 ≡ r
-    → Marking fits at M₀ (i + 1) (set M (at + i) v)
-mark-more {at = at} {i = i} {M = M} s room h v e q =
-    let l = s .long in
-    record {
-      long = simp length-set (s .long);
-      here = below-more _ i
-          (λ k x. rw (getD-set-other M (at + i) (at + k) v 0 (λ z. omega arith)) (s .here k x))
-          (rw (getD-set-same M (at + i) v 0 (omega arith)) (q ∙ e));
-      before = λ k x. getD-set-other M (at + i) k v 0 (λ z. omega arith) ∙ s .before k x;
-    }
-
-pub slot-marked : {fits : ℕ → Bool} {n at : ℕ} {M₀ : List ℕ} {i : ℕ} {M : List ℕ} → Marking fits at M₀ i M
-    → n ≤ i → SlotMarked fits n at M₀ M
-slot-marked s h = record { here = λ k x. s .here k (omega arith); before = s .before }
+  -- no part is more than the whole
+  pub total-inside : total n u 0 < 2 ^ 128 → s + u i < 2 ^ 128
+  total-inside b = rw total-more (lt-of-le-of-lt (omega (arith, total-split (i + 1) (n - (i + 1)) n u 0 (i + 1) (omega arith) (omega arith))) b)

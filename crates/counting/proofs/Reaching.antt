@@ -8,7 +8,7 @@ use mathlib.Core.Bool.{Bool, true, false, _&&_}
 use lib.ListN.{length, getD, set, length-set}
 use lib.Seq.{getD-set-same, getD-set-other}
 use lib.Dec.{eqb, leb}
-use Rattle.counting.specs.Tables.{Least, Reached, leads}
+use Rattle.counting.specs.Steps.Tables.{Least, Reached, leads}
 
 module _ {alive : ℕ → Bool} {n : ℕ} where
   least-none : n ≤ 20000 → Least alive n n 65535
@@ -70,9 +70,9 @@ reached {alive} {n} {base} {N = N} s z short room =
     }
 
 -- the next slot's entries are as they were
-pub lead : (M : List ℕ) (at low high m : ℕ) {n base : ℕ} {N₀ : List ℕ} {i q : ℕ} {N : List ℕ} → Reaching (leads M at low high m base N₀) n base N₀ i q N → n ≤ 20000
-    → {b : Bool} {k c : ℕ} → b ≡ (eqb (getD M (at + (i - 1)) 0) 1 && leb c (i - 1 + high + 1)) → c ≡ getD N (base + 20001 + k) 0 → k ≡ min (i - 1 + low + 1) m
-    → b ≡ leads M at low high m base N₀ (i - 1)
-lead M at low high m {n} {base} {N₀} {i} s h {b} {k} {c} e ec ek =
+pub lead : (T : List ℕ) (at low high m : ℕ) {n base : ℕ} {N₀ : List ℕ} {i q : ℕ} {N : List ℕ} → Reaching (leads T at low high m base N₀) n base N₀ i q N → n ≤ 20000
+    → {b : Bool} {k c : ℕ} → b ≡ (eqb (getD T (at + (i - 1)) 0) 1 && leb c (i - 1 + high + 1)) → c ≡ getD N (base + 20001 + k) 0 → k ≡ min (i - 1 + low + 1) m
+    → b ≡ leads T at low high m base N₀ (i - 1)
+lead T at low high m {n} {base} {N₀} {i} s h {b} {k} {c} e ec ek =
     let d : c ≡ getD N₀ (base + 20001 + min (i - 1 + low + 1) m) 0 = ec ∙ s .above (base + 20001 + k) (omega arith) ∙ ap (λ (z : ℕ). getD N₀ (base + 20001 + z) 0) ek in
     rw (← d) e

@@ -14,12 +14,13 @@ use Rattle.matching.specs.Occurrence.{View}
 use Rattle.matching.specs.Occurrences.{places}
 use Rattle.matching.specs.Laws.Sums.{gather}
 use Rattle.matching.specs.Laws.Branches.{only, stands, branches}
-use Rattle.matching.specs.Laws.Cover.{far}
-use Rattle.counting.specs.Steps.{marked, Marked, size, stopAt}
-use Rattle.counting.specs.Tables.{Least, Reached, ends, leads, Next, rowsOf, Tabled}
-use Rattle.counting.specs.Walks.{run}
+use Rattle.counting.specs.declared.window.Window.{Window}
+use Rattle.counting.specs.Steps.Fits.{fitted, Fitted}
+use Rattle.counting.specs.Steps.Rows.{size, stopAt}
+use Rattle.counting.specs.Steps.Tables.{Least, Reached, ends, leads, Next, rowsOf, Tabled}
+use Rattle.counting.specs.Steps.Walks.{run}
 use Rattle.counting.specs.Laws.Runs.{run-none, run-some}
-use Rattle.counting.proofs.Counting.{fits-inside, Stage, reach-back, size-back, size-less}
+use Rattle.counting.proofs.Counting.{fits-inside, Stage, stage-back, size-less}
 
 -- ---- a test that tells where there are rows
 
@@ -62,17 +63,23 @@ unfolding gather places
 gather-shift zero g d x y e = refl
 gather-shift (suc c) g d x y e = rw (gather-shift c g d (suc x) (suc y) (omega arith)) (ap (λ (k : ℕ). g k ++ gather (λ z. g (d + z + 1)) (places (suc x) c)) e)
 
-module _ (f : Pattern) (v : View) (first n more from : ℕ) where
+module _ (f : Pattern) (v : View) (w : Window) where
+  abbrev first : ℕ
+  first = w .first
+
+  abbrev from : ℕ
+  from = w .from
+
   abbrev stop : ℕ → ℕ
-  stop = stopAt f first n more
+  stop = stopAt f w
 
   abbrev rows : ℕ → ℕ → ℕ → List (List ℕ)
-  rows = rowsOf f v first n more from
+  rows = rowsOf f v w
 
-  pub rows-past : (k j x : ℕ) → size f n more j ≤ x → rows k j x ≡ []
+  pub rows-past : (k j x : ℕ) → size f w j ≤ x → rows k j x ≡ []
   unfolding rowsOf branches only stands stopAt
-  rows-past zero j x h = rw (le-ltb (first + x + 1) (first + size f n more j + 1) (omega arith))
-  rows-past (suc k) j x h = rw (le-ltb (first + x + 1) (first + size f n more j + 1) (omega arith))
+  rows-past zero j x h = rw (le-ltb (first + x + 1) (first + size f w j + 1) (omega arith))
+  rows-past (suc k) j x h = rw (le-ltb (first + x + 1) (first + size f w j + 1) (omega arith))
 
   -- the last slot
   pub rows-last : (j x : ℕ) → (rows zero j x ≡ [] → ⊥) → rows zero j x ≡ ((first + x + 1) ∷ []) ∷ []
@@ -97,20 +104,20 @@ module _ (f : Pattern) (v : View) (first n more from : ℕ) where
     pub rows-step : (rows (suc k) j x ≡ [] → ⊥) → rows (suc k) j x ≡ map (λ r. (first + x + 1) ∷ r) onward
     rows-step h = by-case (stands f v stop from j (first + x + 1)) (λ e. rows-on ∙ only-some (map (λ r. (first + x + 1) ∷ r) onward) e) (λ e. absurd (h (rows-on ∙ only-none (map (λ r. (first + x + 1) ∷ r) onward) e)))
 
-    pub rows-child : (rows (suc k) j x ≡ [] → ⊥) → x + low + 1 ≤ size f n more (suc j)
-    rows-child h = elim (decLe (x + low + 1) (size f n more (suc j))) [
+    pub rows-child : (rows (suc k) j x ≡ [] → ⊥) → x + low + 1 ≤ size f w (suc j)
+    rows-child h = elim (decLe (x + low + 1) (size f w (suc j))) [
       | yes a ↦ a
       | no a ↦ absurd (h (rows-step h ∙ ap (map (λ r. (first + x + 1) ∷ r)) (run-none (rows k (suc j)) (x + low + 1) (x + high + 1 + 1) (λ q b c. rows-past k (suc j) q (omega arith)))))
     ]
 
   -- ---- the tests of the two steps tell
 
-  module _ {M : List ℕ} (mk : Marked f v M) (short : first + n ≤ v .places) (j : ℕ) (slot : j < f .count) where
-    ends-tells : Tells (ends M (j * 20000 + first) first from) (rows zero j) (size f n more j)
+  module _ {T : List ℕ} (fit : Fitted f v T) (short : first + w .places ≤ v .places) (j : ℕ) (slot : j < f .count) where
+    ends-tells : Tells (ends T (j * 20000 + first) first from) (rows zero j) (size f w j)
     unfolding rowsOf branches
     ends-tells =
-        let same : (x : ℕ) → x < size f n more j → (stands f v stop from j (first + x + 1) && leb from (first + x + 1)) ≡ ends M (j * 20000 + first) first from x =
-        λ x h. ap (λ (b : Bool). b && leb from (first + x + 1)) (fits-inside f v first n more from mk short x j slot h) in
+        let same : (x : ℕ) → x < size f w j → (stands f v stop from j (first + x + 1) && leb from (first + x + 1)) ≡ ends T (j * 20000 + first) first from x =
+        λ x h. ap (λ (b : Bool). b && leb from (first + x + 1)) (fits-inside f v w fit short x j slot h) in
         record {
           some = λ x h e z.
               let o = sym (only-some (((first + x + 1) ∷ []) ∷ []) (same x h ∙ e)) ∙ z in
@@ -120,25 +127,25 @@ module _ (f : Pattern) (v : View) (first n more from : ℕ) where
           past = rows-past zero j;
         }
 
-    leads-tells : (k : ℕ) {low high m : ℕ} (N : List ℕ) → low ≡ slotAt f (suc j) .low → high ≡ slotAt f (suc j) .high → high ≤ 63 → size f n more j ≤ 20000
+    leads-tells : (k : ℕ) {low high m : ℕ} (N : List ℕ) → low ≡ slotAt f (suc j) .low → high ≡ slotAt f (suc j) .high → high ≤ 63 → size f w j ≤ 20000
         → ((i : ℕ) → i ≤ m → Next (rows k (suc j)) m i (getD N (j * 20001 + 20001 + i) 0))
-        → Tells (leads M (j * 20000 + first) low high m (j * 20001) N) (rows (suc k) j) (size f n more j)
+        → Tells (leads T (j * 20000 + first) low high m (j * 20001) N) (rows (suc k) j) (size f w j)
     leads-tells k {low} {high} {m} N el eh narrow few next =
         let entry : ℕ → ℕ = λ x. getD N (j * 20001 + 20001 + min (x + low + 1) m) 0 in
         let here : (x : ℕ) → Next (rows k (suc j)) m (min (x + low + 1) m) (entry x) = λ x. next (min (x + low + 1) m) (omega arith) in
-        let same : (x : ℕ) → x < size f n more j → stands f v stop from j (first + x + 1) ≡ marked M (j * 20000 + first + x) =
-        λ x h. fits-inside f v first n more from mk short x j slot h in
+        let same : (x : ℕ) → x < size f w j → stands f v stop from j (first + x + 1) ≡ fitted T (j * 20000 + first + x) =
+        λ x h. fits-inside f v w fit short x j slot h in
         record {
           some = λ x h e z.
-              let b = and-eq-true-iff (marked M (j * 20000 + first + x)) (leb (entry x) (x + high + 1)) .0 e in
+              let b = and-eq-true-iff (fitted T (j * 20000 + first + x)) (leb (entry x) (x + high + 1)) .0 e in
               let le : entry x ≤ x + high + 1 = leb-true (entry x) (x + high + 1) (b .1) in
               let on = here x .here (omega arith) in
               let p = here x .past in
               let o = sym (rows-on k j el eh x ∙ only-some (map (λ r. (first + x + 1) ∷ r) (onward k j el eh x)) (same x h ∙ b .0)) ∙ z in
               on .1 (run-some (rows k (suc j)) (x + low + 1) (entry x) (x + high + 1 + 1) (omega arith) (omega arith) (map-none (λ r. (first + x + 1) ∷ r) (onward k j el eh x) o));
-          none = λ x h e. by-case (marked M (j * 20000 + first + x))
+          none = λ x h e. by-case (fitted T (j * 20000 + first + x))
               (λ y.
-              let far = leb-false (entry x) (x + high + 1) (and-other (marked M (j * 20000 + first + x)) (leb (entry x) (x + high + 1)) e y) in
+              let far = leb-false (entry x) (x + high + 1) (and-other (fitted T (j * 20000 + first + x)) (leb (entry x) (x + high + 1)) e y) in
               rows-on k j el eh x ∙ only-some (map (λ r. (first + x + 1) ∷ r) (onward k j el eh x)) (same x h ∙ y)
               ∙ ap (map (λ r. (first + x + 1) ∷ r)) (run-none (rows k (suc j)) (x + low + 1) (x + high + 1 + 1) (λ q a b. here x .gap q (omega arith) (omega arith))))
               (λ y. rows-on k j el eh x ∙ only-none (map (λ r. (first + x + 1) ∷ r) (onward k j el eh x)) (same x h ∙ y));
@@ -147,57 +154,56 @@ module _ (f : Pattern) (v : View) (first n more from : ℕ) where
 
 -- ---- the table slot by slot: done from slot j on
 
-pub record Tabling (f : Pattern) (v : View) (first n more from : ℕ) (N₀ : List ℕ) (j r m : ℕ) (N : List ℕ) : Type 0 where
-  pub long : length N ≡ length N₀
-  pub here : Stage f n more j r m
-  pub table : Tabled f v first n more from j N
+pub record Tabling (f : Pattern) (v : View) (w : Window) (j r n : ℕ) (N : List ℕ) : Type 0 where
+  pub here : Stage f w j r n
+  pub table : Tabled f v w j N
 
-module _ (f : Pattern) (v : View) (first n more from : ℕ) where
-  pub tabling-begin : {M N₀ N : List ℕ} {r m : ℕ} → Marked f v M → 1 ≤ f .count → first + n ≤ v .places → r ≡ far f (f .count - 1) → m ≡ size f n more (f .count - 1)
-      → Reached (ends M ((f .count - 1) * 20000 + first) first from) m ((f .count - 1) * 20001) N₀ N → Tabling f v first n more from N (f .count - 1) r m N
-  tabling-begin {M} {N₀} {N} {r} {m} mk some short er em s = record {
-    long = refl;
-    here = record { inside = omega arith; reach = er; rows = em };
+module _ {f : Pattern} {v : View} {w : Window} {T : List ℕ} (fit : Fitted f v T) (short : w .first + w .places ≤ v .places) where
+  pub tabling-begin : {N₀ N : List ℕ} {r n : ℕ} → Stage f w (f .count - 1) r n
+      → Reached (ends T ((f .count - 1) * 20000 + w .first) (w .first) (w .from)) n ((f .count - 1) * 20001) N₀ N → Tabling f v w (f .count - 1) r n N
+  tabling-begin {N₀} {N} {r} {n} here s = record {
+    here = here;
     table = record {
       next = λ a b c i h.
           let j = f .count - 1 in
+          let en = here .rows in
           let d : a ≡ j = omega arith in
           let k : f .count - 1 - a ≡ 0 = omega arith in
-          let i′ : i ≤ m = rw em (rw d at h) in
-          rw (k, d) (told (ends-tells f v first n more from mk short j (omega arith)) (rw em at (s .row i i′)));
+          let i′ : i ≤ n = rw en (rw d at h) in
+          rw (k, d) (told (ends-tells f v w fit short j (here .inside)) (rw en at (s .row i i′)));
     };
   }
 
-  pub tabling-more : {M N₀ N N′ : List ℕ} {j r m low high a : ℕ} → Marked f v M → first + n ≤ v .places → n ≤ 20000 → Tabling f v first n more from N₀ j r m N → 0 < j
-      → low ≡ slotAt f j .low → high ≡ slotAt f j .high → high ≤ 63 → a ≡ min n (more + (r - high - 1) + 1) → length N′ ≡ length N
-      → Reached (leads M ((j - 1) * 20000 + first) low high m ((j - 1) * 20001) N) a ((j - 1) * 20001) N N′
-      → Tabling f v first n more from N₀ (j - 1) (r - high - 1) a N′
-  tabling-more {M} {N₀} {N} {N′} {j} {r} {m} {low} {high} {a} mk short few c pos el eh narrow ea long s =
+  pub tabling-more : {N N′ : List ℕ} {j r n low high k : ℕ} → w .places ≤ 20000 → Tabling f v w j r n N → 0 < j
+      → low ≡ slotAt f j .low → high ≡ slotAt f j .high → high ≤ 63 → k ≡ min (w .places) (w .starts + (r - high - 1))
+      → Reached (leads T ((j - 1) * 20000 + w .first) low high n ((j - 1) * 20001) N) k ((j - 1) * 20001) N N′
+      → Tabling f v w (j - 1) (r - high - 1) k N′
+  tabling-more {N} {N′} {j} {r} {n} {low} {high} {k} few c pos el eh narrow ek s =
       let inside = c .here .inside in
       let rows = c .here .rows in
       let ej : suc (j - 1) ≡ j = omega arith in
-      let sa : a ≡ size f n more (j - 1) = size-back (c .here) pos eh ea in
-      let less = size-less (c .here) pos eh ea in
-      let k = f .count - 1 - j in
+      let back = stage-back (c .here) pos eh ek in
+      let sk = back .rows in
+      let less = size-less (c .here) pos eh ek in
+      let d = f .count - 1 - j in
       let el′ : low ≡ slotAt f (suc (j - 1)) .low = rw ej el in
       let eh′ : high ≡ slotAt f (suc (j - 1)) .high = rw ej eh in
-      let next : (i : ℕ) → i ≤ m → Next (rowsOf f v first n more from k (suc (j - 1))) m i (getD N ((j - 1) * 20001 + 20001 + i) 0) = λ i h.
+      let next : (i : ℕ) → i ≤ n → Next (rowsOf f v w d (suc (j - 1))) n i (getD N ((j - 1) * 20001 + 20001 + i) 0) = λ i h.
       let at : j * 20001 + i ≡ (j - 1) * 20001 + 20001 + i = omega arith in
       rw (ej, ← at) (rw (← rows) at (c .table .next j (omega arith) inside i (rw (← rows) h))) in
-      let tells = leads-tells f v first n more from mk short (j - 1) (omega arith) k N el′ eh′ narrow (omega arith) next in
+      let tells = leads-tells f v w fit short (j - 1) (omega arith) d N el′ eh′ narrow (omega arith) next in
       record {
-        long = long ∙ c .long;
-        here = record { inside = omega arith; reach = reach-back (c .here) pos eh .2; rows = sa };
+        here = back;
         table = record {
           next = λ b le lt i h. elim (ℕ-discrete b (j - 1)) [
             | yes e ↦
-                let ek : f .count - 1 - b ≡ suc k = omega arith in
-                let i′ : i ≤ a = rw sa (rw e at h) in
-                rw (ek, e) (told tells (rw sa at (s .row i i′)))
+                let ed : f .count - 1 - b ≡ suc d = omega arith in
+                let i′ : i ≤ k = rw sk (rw e at h) in
+                rw (ed, e) (told tells (rw sk at (s .row i i′)))
             | no e ↦ rw (s .above (b * 20001 + i) (omega arith)) (c .table .next b (omega arith) lt i h)
           ];
         };
       }
 
-  pub tabled : {N₀ N : List ℕ} {j r m : ℕ} → Tabling f v first n more from N₀ j r m N → j ≤ 0 → Tabled f v first n more from 0 N
-  tabled {j = j} c h = let e : 0 ≡ j = omega arith in rw e (c .table)
+pub tabled : {f : Pattern} {v : View} {w : Window} {N : List ℕ} {j r n : ℕ} → Tabling f v w j r n N → j ≤ 0 → Tabled f v w 0 N
+tabled {j = j} c h = let e : 0 ≡ j = omega arith in rw e (c .table)

@@ -5,35 +5,11 @@ use native.Mathlib.Numerals.{add-one}
 use native.Mathlib.Omega.{arith}
 use mathlib.Core.Path.{_≡_, refl, sym, ap, _∙_}
 use mathlib.Core.List.{List, [], _∷_, _++_, map, append-assoc}
-use lib.ListN.{length, getD, take, set, replicate, length-map, length-append, length-set}
-use lib.Seq.{paste, take-suc-set, take-set-le, take-take, getD-set-same, getD-set-other}
-use borrow.Author.Count.{below-more}
-use Rattle.pattern.specs.declared.Pattern.{Pattern}
-use Rattle.counting.specs.Tables.{Next}
-use Rattle.counting.specs.Walks.{run, put, Bounds, Walk, Walked}
+use lib.ListN.{length, getD, take, set, length-map, length-append, length-set}
+use lib.Seq.{paste, take-suc-set, take-set-le, take-take}
+use Rattle.counting.specs.Steps.Tables.{Next}
+use Rattle.counting.specs.Steps.Walks.{run, put, Walk, Walked}
 use Rattle.counting.specs.Laws.Runs.{run-none, run-skip, run-more, run-part, put-append}
-
--- ---- the gaps before the slots: done below j
-
-pub record Bounding (f : Pattern) (of : ℕ → ℕ) (j : ℕ) (b : List ℕ) : Type 0 where
-  pub long : length b ≡ 16
-  pub inside : j ≤ f .count
-  pub bound : (k : ℕ) → k < j → getD b k 0 ≡ of k
-
-pub bounding-begin : {f : Pattern} {of : ℕ → ℕ} → Bounding f of 0 (replicate 16 0)
-bounding-begin = record { long = refl; inside = omega arith; bound = λ k h. absurd (omega arith) }
-
-pub bounding-more : {f : Pattern} {of : ℕ → ℕ} {j : ℕ} {b : List ℕ} → Bounding f of j b → j < f .count → f .count ≤ 16 → {v : ℕ} → v ≡ of j → Bounding f of (j + 1) (set b j v)
-bounding-more {j = j} {b} s h few {v} e =
-    let l = s .long in
-    record {
-      long = simp length-set (s .long);
-      inside = omega arith;
-      bound = below-more _ j (λ k x. getD-set-other b j k v 0 (λ q. omega arith) ∙ s .bound k x) (getD-set-same b j v 0 (omega arith) ∙ e);
-    }
-
-pub bounded : {f : Pattern} {of : ℕ → ℕ} {j : ℕ} {b : List ℕ} → Bounding f of j b → f .count ≤ j → Bounds f of b
-bounded s h = record { long = s .long; bound = λ k x. s .bound k (omega arith) }
 
 -- ---- rows with the same places before them
 

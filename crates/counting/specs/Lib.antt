@@ -1,8 +1,6 @@
--- The answers of the two calls, then what the steps of the counting do. `Laws` has what follows.
+-- The answers of the two calls, and what the tests before them give. `Laws` has what follows, `Steps` the contracts inside.
 pub mod Answers
 pub mod Inputs
 pub mod Numbers
 pub mod Steps
-pub mod Tables
-pub mod Walks
 pub mod Laws

@@ -1,10 +1,10 @@
 // Counting and listing all occurrences of a pattern in a text.
+mod fits;
+mod gaps;
 mod halves;
 mod listing;
-mod marks;
 mod numbers;
 mod reach;
-mod spans;
 mod total;
 mod walk;
 mod window;

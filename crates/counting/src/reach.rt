@@ -1,20 +1,19 @@
 use crate::numbers::clip;
 use crate::numbers::widen;
-use pattern::Pattern;
+use crate::window::Window;
 ghost use mathlib.Core.Path.{_≡_};
 ghost use mathlib.Core.Bool.{_&&_};
-ghost use Prim.Native.Nat.{_+_, _-_, _<_, _≤_};
+ghost use Prim.Native.Nat.{_+_, _<_, _≤_};
 ghost use lib.ListN.{length};
 ghost use lib.Dec.{leb, eqb};
-ghost use Rattle.matching.specs.Laws.Cover.{far};
-ghost use Rattle.counting.specs.Steps.{Window};
-ghost use Rattle.counting.specs.Tables.{ends, leads, Reached, Tabled};
+ghost use Rattle.counting.specs.Steps.Plans.{Run, runPattern, runView};
+ghost use Rattle.counting.specs.Steps.Tables.{ends, leads, Reached, Tabled};
 
-// Whether the mark is set and a is at most b.
-fn holds(mark: u8, a: usize, b: usize) -> bool
-    ensures { λ r. ⌜ r ≡ (eqb mark 1 && leb a b) ⌝ }
+// Whether the slot fits and a is at most b.
+fn holds(fit: u8, a: usize, b: usize) -> bool
+    ensures { λ r. ⌜ r ≡ (eqb fit 1 && leb a b) ⌝ }
 {
-    if mark == 1 {
+    if fit == 1 {
         if a <= b {
             return true;
         }
@@ -25,7 +24,7 @@ fn holds(mark: u8, a: usize, b: usize) -> bool
 
 // The entries of the last slot.
 fn reach_last(
-    marks: &[u8],
+    fits: &[u8],
     at: usize,
     first: usize,
     n: usize,
@@ -33,8 +32,8 @@ fn reach_last(
     base: usize,
     next: &mut [u16],
 )
-    requires { ⌜ (at + n ≤ length (now marks)) × (first ≤ 20000) × (n ≤ 20000) × (base + n < length (now next)) ⌝ }
-    ensures { λ _. ⌜ Reached (ends (now (marks .entry)) at first from) n base (now (next .entry)) (now (next .exit)) ⌝ }
+    requires { ⌜ (at + n ≤ length (now fits)) × (first ≤ 20000) × (n ≤ 20000) × (base + n < length (now next)) ⌝ }
+    ensures { λ _. ⌜ Reached (ends (now (fits .entry)) at first from) n base (now (next .entry)) (now (next .exit)) ⌝ }
 {
     let mut q: u16 = 65535;
     let mut i = n;
@@ -42,7 +41,7 @@ fn reach_last(
         i -= 1;
         let k = at + i;
         let d = base + i;
-        if holds(marks[k], from, first + i + 1) {
+        if holds(fits[k], from, first + i + 1) {
             q = i as u16;
             next[d] = q;
         } else {
@@ -55,7 +54,7 @@ fn reach_last(
 
 // The entries of a slot with n indexes, from those of the next slot with m.
 fn reach_on(
-    marks: &[u8],
+    fits: &[u8],
     at: usize,
     low: usize,
     high: usize,
@@ -64,8 +63,8 @@ fn reach_on(
     base: usize,
     next: &mut [u16],
 )
-    requires { ⌜ (at + n ≤ length (now marks)) × (low ≤ 63) × (high ≤ 63) × (n ≤ 20000) × (m ≤ 20000) × (base + 20001 + m < length (now next)) ⌝ }
-    ensures { λ _. ⌜ Reached (leads (now (marks .entry)) at low high m base (now (next .entry))) n base (now (next .entry)) (now (next .exit)) ⌝ }
+    requires { ⌜ (at + n ≤ length (now fits)) × (low ≤ 63) × (high ≤ 63) × (n ≤ 20000) × (m ≤ 20000) × (base + 20001 + m < length (now next)) ⌝ }
+    ensures { λ _. ⌜ Reached (leads (now (fits .entry)) at low high m base (now (next .entry))) n base (now (next .entry)) (now (next .exit)) ⌝ }
 {
     let mut q: u16 = 65535;
     let mut i = n;
@@ -74,7 +73,7 @@ fn reach_on(
         let k = at + i;
         let d = base + i;
         let c = base + 20001 + clip(i + low + 1, m);
-        if holds(marks[k], widen(next[c]), i + high + 1) {
+        if holds(fits[k], widen(next[c]), i + high + 1) {
             q = i as u16;
             next[d] = q;
         } else {
@@ -85,33 +84,31 @@ fn reach_on(
     next[d] = 65535;
 }
 
-// The table of a window: of the n places from `first` + 1 on, with the last place of a row at or after `from`. A slot has at most n
-// indexes, and `more` more than can be reached from the first; `reach` is the distance that the last slot can be from it.
+// The table of a window, where `reach` is how far the last of the m slots can be from the first.
 pub(crate) fn reach_all(
-    f: Pattern,
-    marks: &[u8],
-    first: usize,
-    n: usize,
-    more: usize,
+    low: &[u16],
+    high: &[u16],
+    m: usize,
     reach: usize,
-    from: usize,
+    fits: &[u8],
+    w: Window,
     next: &mut [u16],
 )
-    requires { ⌜ Window f (now marks) first n ⌝ ∗ ⌜ (more ≤ 20000) × (reach ≡ far f (f .count - 1)) × (320016 ≤ length (now next)) ⌝ }
-    ensures { λ _. ⌜ ((w : Window f (now (marks .entry)) first n) → Tabled f (w .view) first n more from 0 (now (next .exit))) ⌝ }
+    requires { ⌜ Run m reach (now low) (now high) (now fits) w ⌝ ∗ ⌜ 320016 ≤ length (now next) ⌝ }
+    ensures { λ _. ⌜ ((g : Run m reach (now (low .entry)) (now (high .entry)) (now (fits .entry)) w) → Tabled (runPattern g) (runView g) w 0 (now (next .exit))) ⌝ }
 {
-    let mut j = f.count - 1;
+    let first = w.first;
+    let mut j = m - 1;
     let mut r = reach;
-    let mut m = clip(n, more + r + 1);
-    reach_last(marks, j * 20000 + first, first, m, from, j * 20001, next);
+    let mut n = clip(w.places, w.starts + r);
+    reach_last(fits, j * 20000 + first, first, n, w.from, j * 20001, next);
     while 0 < j {
-        let s = f.slots[j];
-        let low = widen(s.low);
-        let high = widen(s.high);
+        let narrow = widen(low[j]);
+        let wide = widen(high[j]);
         j -= 1;
-        r = r - high - 1;
-        let k = clip(n, more + r + 1);
-        reach_on(marks, j * 20000 + first, low, high, k, m, j * 20001, next);
-        m = k;
+        r = r - wide - 1;
+        let k = clip(w.places, w.starts + r);
+        reach_on(fits, j * 20000 + first, narrow, wide, k, n, j * 20001, next);
+        n = k;
     }
 }

@@ -1,23 +1,23 @@
+use crate::fits::tabulate;
+use crate::gaps::Outline;
 use crate::halves::Wide;
 use crate::halves::add;
-use crate::marks::mark;
 use crate::numbers::clip;
-use crate::numbers::widen;
-use crate::spans::farthest;
-use crate::spans::unbound;
+use crate::window::Window;
 use crate::window::ways;
 use pattern::Pattern;
 use pattern::Refusal;
 use pattern::Verdict;
 ghost use mathlib.Core.Path.{_≡_};
-ghost use Prim.Native.Nat.{_+_, _-_, _≤_, min};
+ghost use mathlib.Core.Bool.{true};
+ghost use Prim.Native.Nat.{_^_, _<_, _≤_};
 ghost use lib.ListN.{length};
-ghost use Rattle.matching.specs.Occurrence.{plain};
-ghost use Rattle.matching.specs.Laws.Cover.{near, far, width};
-ghost use Rattle.matching.specs.Occurrences.{occurrences};
-ghost use Rattle.counting.specs.Inputs.{Input};
-ghost use Rattle.counting.specs.Numbers.{value};
-ghost use Rattle.counting.specs.Steps.{Marked};
+ghost use Rattle.matching.specs.Laws.Cover.{width};
+ghost use Rattle.matching.specs.Laws.Sums.{total};
+ghost use Rattle.matching.specs.Occurrences.{occurrencesIn};
+ghost use Rattle.counting.specs.Numbers.{value, val};
+ghost use Rattle.counting.specs.Steps.Plans.{Known, knownView, Plan, planPattern, planView, unbound};
+ghost use Rattle.counting.specs.Steps.Rows.{Room, Column};
 ghost use Rattle.counting.specs.Answers.{tallied};
 
 // What the tally answers: how many occurrences there are, or why it counted none.
@@ -26,60 +26,111 @@ pub enum Tallied {
     Refused(Refusal),
 }
 
-// All occurrences, where the span limits say nothing: one run over the text.
-fn whole(f: Pattern, t: &[u16], marks: &[u8], reach: usize) -> Wide
-    requires { ⌜ Input f (plain f (now t)) ⌝ ∗ ⌜ Marked f (plain f (now t)) (now marks) ⌝ ∗ ⌜ (f .least ≤ near f (f .count - 1) + 1) × (min (far f (f .count - 1) + 1) (length (now t)) ≤ f .most) × (reach ≡ far f (f .count - 1)) ⌝ }
-    ensures { λ r. ⌜ value r ≡ length (occurrences f (now (t .entry))) ⌝ }
+// The column of n places where the span limits cannot bind: one run over all of them.
+fn whole(
+    low: &[u16],
+    high: &[u16],
+    m: usize,
+    reach: usize,
+    fits: &[u8],
+    n: usize,
+    hi: &mut [u64],
+    lo: &mut [u64],
+)
+    requires { ⌜ Plan m n reach (now low) (now high) (now fits) ⌝ ∗ ⌜ Room n (now hi) (now lo) ⌝ }
+    ensures { λ _. ⌜ ((g : Plan m n reach (now (low .entry)) (now (high .entry)) (now (fits .entry))) → unbound (planPattern g) n ≡ true → Column (planPattern g) (planView g) (now (hi .exit)) (now (lo .exit))) ⌝ }
 {
-    let mut hi = [0u64; 20001];
-    let mut lo = [0u64; 20001];
-    let n = t.len();
-    ways(f, marks, 0, n, n, reach, 0, &mut hi, &mut lo);
-    Wide {
-        hi: hi[0],
-        lo: lo[0],
-    }
+    let w = Window {
+        first: 0,
+        places: n,
+        starts: n,
+        from: 0,
+    };
+    ways(low, high, m, reach, fits, w, hi, lo);
 }
 
-// All occurrences of any pattern: a run for each first place, over the places that a row can span.
-fn each(f: Pattern, t: &[u16], marks: &[u8], reach: usize, w: usize) -> Wide
-    requires { ⌜ Input f (plain f (now t)) ⌝ ∗ ⌜ Marked f (plain f (now t)) (now marks) ⌝ ∗ ⌜ (reach ≡ far f (f .count - 1)) × (w ≡ width f) × (1 ≤ w) × (w ≤ 961) ⌝ }
-    ensures { λ r. ⌜ value r ≡ length (occurrences f (now (t .entry))) ⌝ }
+// The column of n places for any pattern: a run for each first place, over the places that a row can span.
+fn each(
+    low: &[u16],
+    high: &[u16],
+    m: usize,
+    reach: usize,
+    fits: &[u8],
+    n: usize,
+    least: usize,
+    span: usize,
+    hi: &mut [u64],
+    lo: &mut [u64],
+)
+    requires { ⌜ Plan m n reach (now low) (now high) (now fits) ⌝ ∗ ⌜ Room n (now hi) (now lo) ⌝ ∗ ⌜ (least < 65536) × (1 ≤ span) × (span ≤ 961) ⌝ }
+    ensures { λ _. ⌜ ((g : Plan m n reach (now (low .entry)) (now (high .entry)) (now (fits .entry))) → least ≡ g .least → span ≡ width (planPattern g) → Column (planPattern g) (planView g) (now (hi .exit)) (now (lo .exit))) ⌝ }
 {
-    let mut hi = [0u64; 1000];
-    let mut lo = [0u64; 1000];
-    let n = t.len();
-    let least = widen(f.least);
-    let mut sum = Wide { hi: 0, lo: 0 };
+    let mut x = [0u64; 1000];
+    let mut y = [0u64; 1000];
     let mut i = 0;
     while i < n {
-        if marks[i] == 1 {
-            let m = clip(w, n - i);
-            ways(f, marks, i, m, 0, reach, i + least, &mut hi, &mut lo);
-            let x = Wide {
-                hi: hi[0],
-                lo: lo[0],
+        if fits[i] == 1 {
+            let w = Window {
+                first: i,
+                places: clip(span, n - i),
+                starts: 1,
+                from: i + least,
             };
-            sum = add(sum, x);
+            ways(low, high, m, reach, fits, w, &mut x, &mut y);
+            hi[i] = x[0];
+            lo[i] = y[0];
             i += 1;
         } else {
+            hi[i] = 0;
+            lo[i] = 0;
             i += 1;
         }
     }
-    sum
 }
 
-// The number of all occurrences.
-pub(crate) fn count(f: Pattern, t: &[u16], marks: &[u8]) -> Wide
-    requires { ⌜ Input f (plain f (now t)) ⌝ ∗ ⌜ Marked f (plain f (now t)) (now marks) ⌝ }
-    ensures { λ r. ⌜ value r ≡ length (occurrences f (now (t .entry))) ⌝ }
+// How many occurrences start at each of n places.
+fn column(f: Pattern, n: usize, fits: &[u8], hi: &mut [u64], lo: &mut [u64])
+    requires { ⌜ Known f n (now fits) ⌝ ∗ ⌜ Room n (now hi) (now lo) ⌝ }
+    ensures { λ _. ⌜ ((k : Known f n (now (fits .entry))) → Column f (knownView k) (now (hi .exit)) (now (lo .exit))) ⌝ }
 {
-    let far = farthest(f);
-    if unbound(f, t) {
-        return whole(f, t, marks, far);
+    let m = f.count;
+    let o = Outline::of(f, n);
+    let low = o.low;
+    let high = o.high;
+    if o.unbound {
+        whole(&low, &high, m, o.reach, fits, n, hi, lo);
+        return;
     }
-    let most = widen(f.most);
-    each(f, t, marks, far, clip(most, far + 1))
+    each(&low, &high, m, o.reach, fits, n, o.least, o.span, hi, lo);
+}
+
+// The sum of n numbers.
+fn sum(n: usize, hi: &[u64], lo: &[u64]) -> Wide
+    requires { ⌜ Room n (now hi) (now lo) ⌝ ∗ ⌜ total n (val (now hi) (now lo)) 0 < 2 ^ 128 ⌝ }
+    ensures { λ r. ⌜ value r ≡ total n (val (now (hi .entry)) (now (lo .entry))) 0 ⌝ }
+{
+    let mut s = Wide { hi: 0, lo: 0 };
+    let mut i = 0;
+    while i < n {
+        let x = Wide {
+            hi: hi[i],
+            lo: lo[i],
+        };
+        s = add(s, x);
+        i += 1;
+    }
+    s
+}
+
+// The number of all occurrences in n places.
+pub(crate) fn count(f: Pattern, n: usize, fits: &[u8]) -> Wide
+    requires { ⌜ Known f n (now fits) ⌝ }
+    ensures { λ r. ⌜ ((k : Known f n (now (fits .entry))) → value r ≡ length (occurrencesIn f (knownView k))) ⌝ }
+{
+    let mut hi = [0u64; 20001];
+    let mut lo = [0u64; 20001];
+    column(f, n, fits, &mut hi, &mut lo);
+    sum(n, &hi, &lo)
 }
 
 // The number of all occurrences, where it is below 2 ^ 64 (document 01: the tally).
@@ -90,9 +141,9 @@ pub fn tally(pattern: Pattern, text: &[u16]) -> Tallied
     if let Verdict::Refused(why) = verdict {
         return Tallied::Refused(why);
     }
-    let mut marks = [0u8; 320000];
-    mark(pattern, text, &mut marks);
-    let total = count(pattern, text, &marks);
+    let mut fits = [0u8; 320000];
+    tabulate(pattern, text, &mut fits);
+    let total = count(pattern, text.len(), &fits);
     if 0 < total.hi {
         return Tallied::Refused(Refusal::Tally);
     }

@@ -1,44 +1,10 @@
 use crate::numbers::widen;
 use matching::put_row;
-use pattern::Pattern;
 ghost use mathlib.Core.Path.{_≡_};
 ghost use Prim.Native.Nat.{_+_, _*_, _<_, _≤_};
 ghost use lib.ListN.{length, getD, take};
 ghost use lib.Seq.{paste};
-ghost use Rattle.pattern.specs.Patterns.{slotAt};
-ghost use Rattle.counting.specs.Walks.{Bounds, Walk, Walked};
-
-// The least gap before each slot.
-pub(crate) fn lows(f: Pattern) -> [u16; 16]
-    requires { ⌜ f .count ≤ 16 ⌝ }
-    ensures { λ r. ⌜ Bounds f (λ j. slotAt f j .low) r ⌝ }
-{
-    let m = f.count;
-    let mut low = [0u16; 16];
-    let mut j = 0;
-    while j < m {
-        let s = f.slots[j];
-        low[j] = s.low;
-        j += 1;
-    }
-    low
-}
-
-// The widest gap before each slot.
-pub(crate) fn highs(f: Pattern) -> [u16; 16]
-    requires { ⌜ f .count ≤ 16 ⌝ }
-    ensures { λ r. ⌜ Bounds f (λ j. slotAt f j .high) r ⌝ }
-{
-    let m = f.count;
-    let mut high = [0u16; 16];
-    let mut j = 0;
-    while j < m {
-        let s = f.slots[j];
-        high[j] = s.high;
-        j += 1;
-    }
-    high
-}
+ghost use Rattle.counting.specs.Steps.Walks.{Walk, Walked};
 
 // The table's entry for slot j at an index.
 fn entry(next: &[u16], j: usize, i: usize) -> usize

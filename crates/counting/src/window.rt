@@ -3,21 +3,32 @@ use crate::halves::add;
 use crate::halves::sub;
 use crate::numbers::clip;
 use crate::numbers::widen;
-use pattern::Pattern;
 ghost use mathlib.Core.Path.{_≡_};
 ghost use mathlib.Core.Bool.{_&&_};
 ghost use Prim.Native.Nat.{_+_, _-_, _<_, _≤_};
 ghost use lib.ListN.{length};
 ghost use lib.Dec.{leb, eqb};
 ghost use Rattle.matching.specs.Laws.Branches.{when};
-ghost use Rattle.matching.specs.Laws.Cover.{far};
-ghost use Rattle.counting.specs.Steps.{Window, Room, Ended, Falling, Spread, Summable, Summed, Holds};
+ghost use Rattle.counting.specs.Steps.Plans.{Run, runPattern, runView};
+ghost use Rattle.counting.specs.Steps.Rows.{Room, Ended, Falling, Spread, Summable, Summed, Row};
+
+// Consecutive places of a text, and which rows are looked for there.
+pub(crate) struct Window {
+    // how many places stand before it
+    pub first: usize,
+    // how many places it has
+    pub places: usize,
+    // at how many of them, from its first on, a row may start
+    pub starts: usize,
+    // the least place of the text at which a row may end
+    pub from: usize,
+}
 
 // Whether the last slot may stand at the place, as a number.
-fn ending(mark: u8, from: usize, p: usize) -> u64
-    ensures { λ r. ⌜ r ≡ when (eqb mark 1 && leb from p) 1 ⌝ }
+fn ending(fit: u8, from: usize, p: usize) -> u64
+    ensures { λ r. ⌜ r ≡ when (eqb fit 1 && leb from p) 1 ⌝ }
 {
-    if mark == 1 {
+    if fit == 1 {
         if from <= p {
             return 1;
         }
@@ -27,23 +38,15 @@ fn ending(mark: u8, from: usize, p: usize) -> u64
 }
 
 // The last slot's row.
-fn ends(
-    marks: &[u8],
-    at: usize,
-    first: usize,
-    n: usize,
-    from: usize,
-    hi: &mut [u64],
-    lo: &mut [u64],
-)
-    requires { ⌜ Room n (now hi) (now lo) ⌝ ∗ ⌜ (at + n ≤ length (now marks)) × (first ≤ 20000) × (n ≤ 20000) ⌝ }
-    ensures { λ _. ⌜ Ended (now (marks .entry)) at first n from (now (hi .exit)) (now (lo .exit)) ⌝ }
+fn ends(fits: &[u8], at: usize, first: usize, n: usize, from: usize, hi: &mut [u64], lo: &mut [u64])
+    requires { ⌜ Room n (now hi) (now lo) ⌝ ∗ ⌜ (at + n ≤ length (now fits)) × (first ≤ 20000) × (n ≤ 20000) ⌝ }
+    ensures { λ _. ⌜ Ended (now (fits .entry)) at first n from (now (hi .exit)) (now (lo .exit)) ⌝ }
 {
     let mut i = 0;
     while i < n {
         let k = at + i;
         hi[i] = 0;
-        lo[i] = ending(marks[k], from, first + i + 1);
+        lo[i] = ending(fits[k], from, first + i + 1);
         i += 1;
     }
     hi[n] = 0;
@@ -52,7 +55,7 @@ fn ends(
 
 // A slot's row of n places from the sums of the next slot's row of m.
 fn spread(
-    marks: &[u8],
+    fits: &[u8],
     at: usize,
     low: usize,
     high: usize,
@@ -61,13 +64,13 @@ fn spread(
     hi: &mut [u64],
     lo: &mut [u64],
 )
-    requires { ⌜ Room m (now hi) (now lo) ⌝ ∗ ⌜ Falling m (now hi) (now lo) ⌝ ∗ ⌜ (at + n ≤ length (now marks)) × (low ≤ high) × (high < 65536) × (n ≤ m) × (m ≤ 20000) ⌝ }
-    ensures { λ _. ⌜ Spread (now (marks .entry)) at low high n m (now (hi .entry)) (now (lo .entry)) (now (hi .exit)) (now (lo .exit)) ⌝ }
+    requires { ⌜ Room m (now hi) (now lo) ⌝ ∗ ⌜ Falling m (now hi) (now lo) ⌝ ∗ ⌜ (at + n ≤ length (now fits)) × (low ≤ high) × (high < 65536) × (n ≤ m) × (m ≤ 20000) ⌝ }
+    ensures { λ _. ⌜ Spread (now (fits .entry)) at low high n m (now (hi .entry)) (now (lo .entry)) (now (hi .exit)) (now (lo .exit)) ⌝ }
 {
     let mut i = 0;
     while i < n {
         let k = at + i;
-        if marks[k] == 1 {
+        if fits[k] == 1 {
             let a = clip(i + low + 1, m);
             let b = clip(i + high + 2, m);
             let x = Wide {
@@ -115,36 +118,34 @@ fn sums(n: usize, hi: &mut [u64], lo: &mut [u64])
     }
 }
 
-// The sums of the first slot's row, of the places from `first` + 1 on, with the last place at or after `from`. The rows have at
-// most n places, and `more` more than can be reached from the first; `reach` is the distance that the last slot can be from it.
+// The first slot's row of a window: how many rows of places start at each. `reach` is how far the last of the m slots can be from
+// the first.
 pub(crate) fn ways(
-    f: Pattern,
-    marks: &[u8],
-    first: usize,
-    n: usize,
-    more: usize,
+    low: &[u16],
+    high: &[u16],
+    m: usize,
     reach: usize,
-    from: usize,
+    fits: &[u8],
+    w: Window,
     hi: &mut [u64],
     lo: &mut [u64],
 )
-    requires { ⌜ Window f (now marks) first n ⌝ ∗ ⌜ Room n (now hi) (now lo) ⌝ ∗ ⌜ (more ≤ 20000) × (reach ≡ far f (f .count - 1)) ⌝ }
-    ensures { λ _. ⌜ ((w : Window f (now (marks .entry)) first n) → Holds f (w .view) first n more from (f .count - 1) 0 (now (hi .exit)) (now (lo .exit))) ⌝ }
+    requires { ⌜ Run m reach (now low) (now high) (now fits) w ⌝ ∗ ⌜ Room (w .places) (now hi) (now lo) ⌝ }
+    ensures { λ _. ⌜ ((g : Run m reach (now (low .entry)) (now (high .entry)) (now (fits .entry)) w) → Row (runPattern g) (runView g) w (m - 1) 0 (now (hi .exit)) (now (lo .exit))) ⌝ }
 {
-    let mut j = f.count - 1;
+    let first = w.first;
+    let mut j = m - 1;
     let mut r = reach;
-    let mut m = clip(n, more + r + 1);
-    ends(marks, j * 20000 + first, first, m, from, hi, lo);
-    sums(m, hi, lo);
+    let mut n = clip(w.places, w.starts + r);
+    ends(fits, j * 20000 + first, first, n, w.from, hi, lo);
     while 0 < j {
-        let s = f.slots[j];
-        let low = widen(s.low);
-        let high = widen(s.high);
+        let narrow = widen(low[j]);
+        let wide = widen(high[j]);
         j -= 1;
-        r = r - high - 1;
-        let k = clip(n, more + r + 1);
-        spread(marks, j * 20000 + first, low, high, k, m, hi, lo);
-        sums(k, hi, lo);
-        m = k;
+        r = r - wide - 1;
+        let k = clip(w.places, w.starts + r);
+        sums(n, hi, lo);
+        spread(fits, j * 20000 + first, narrow, wide, k, n, hi, lo);
+        n = k;
     }
 }

@@ -59,3 +59,7 @@ occurrencesIn f v = select (occursIn f v) (rows (f .count) (v .places))
 
 abbrev pub occurrences : Pattern → List ℕ → List (List ℕ)
 occurrences f t = occurrencesIn f (plain f t)
+
+-- those that start at the place p
+unfoldable pub startingIn : Pattern → View → ℕ → List (List ℕ)
+startingIn f v p = select (λ r. eqb (at r 0) p) (occurrencesIn f v)

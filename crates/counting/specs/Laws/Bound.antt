@@ -5,11 +5,10 @@ use native.Mathlib.Omega.{arith}
 use lib.Dec.{lit<, lit≤}
 use Rattle.pattern.specs.declared.Pattern.{Pattern}
 use Rattle.pattern.specs.Patterns.{slotAt}
-use Rattle.pattern.specs.Accepted.{Accepted}
 use Rattle.matching.specs.Occurrence.{View}
 use Rattle.matching.specs.Laws.Sums.{total, total-bound}
 use Rattle.matching.specs.Laws.Branches.{ways, when-bound}
-use Rattle.matching.specs.Laws.Cover.{near, far, starting, limit, least, tally-each}
+use Rattle.matching.specs.Laws.Cover.{distance, limit, least, tally-each}
 use Rattle.counting.specs.Laws.Inputs.{gaps}
 use Rattle.counting.specs.Inputs.{Input}
 use Rattle.matching.specs.Occurrences.{occurrencesIn}
@@ -34,27 +33,21 @@ module _ (f : Pattern) (v : View) (gaps : (j : ℕ) → j < f .count → (slotAt
       lt-of-le-of-lt (le-trans a b) (lit< tt)
 
 module _ {f : Pattern} {v : View} (ok : Input f v) where
-  pub starting-fits : (n : ℕ) → n ≤ 20001 → total n (starting f v) 1 < 2 ^ 128
-  unfolding starting
-  starting-fits n h =
-      let k = f .count - 1 in
-      let some = ok .pattern .some in
-      let few = ok .pattern .few in
-      let a = total-bound n (64 ^ k) (starting f v) 1 (λ q. ways-bound f v (gaps (ok .pattern)) k (limit f v q) (least f q) 0 q (omega arith)) in
-      let b : n * 64 ^ k ≤ 20001 * 64 ^ 15 = mul-le-mul h (pow-le-pow-right (lit< tt) {i = k} {j = 15} (omega arith)) in
-      lt-of-le-of-lt (le-trans a b) (lit< tt)
-
   -- the tally fits two halves
   pub tally-fits : length (occurrencesIn f v) < 2 ^ 128
-  tally-fits = let s = ok .short in rw (tally-each f v (ok .pattern .some) (ok .pattern .least)) (starting-fits (v .places) (omega arith))
+  tally-fits =
+      let k = f .count - 1 in
+      let n = v .places in
+      let some = ok .pattern .some in
+      let few = ok .pattern .few in
+      let short = ok .short in
+      let starts : ℕ → ℕ = λ p. ways f v (limit f v p) (least f p) k 0 p in
+      let a = total-bound n (64 ^ k) starts 1 (λ q. ways-bound f v (gaps (ok .pattern)) k (limit f v q) (least f q) 0 q (omega arith)) in
+      let b : n * 64 ^ k ≤ 20001 * 64 ^ 15 = mul-le-mul {n₁ = n} {n₂ = 20001} (omega arith) (pow-le-pow-right (lit< tt) {i = k} {j = 15} (omega arith)) in
+      rw (tally-each f v some (ok .pattern .least)) (lt-of-le-of-lt (le-trans a b) (lit< tt))
 
-module _ {f : Pattern} (ok : Accepted f) where
-  pub far-bound : (k : ℕ) → k < f .count → far f k ≤ 64 * k
-  unfolding far
-  far-bound zero h = omega arith
-  far-bound (suc k) h = omega (arith, far-bound k (omega arith), gaps ok (suc k) h)
-
-  pub near-bound : (k : ℕ) → k < f .count → near f k ≤ 64 * k
-  unfolding near
-  near-bound zero h = omega arith
-  near-bound (suc k) h = omega (arith, near-bound k (omega arith), gaps ok (suc k) h)
+-- gaps of at most 63 words
+pub distance-bound : (gap : ℕ → ℕ) (m : ℕ) → ((j : ℕ) → j < m → gap j ≤ 63) → (k : ℕ) → k < m → distance gap k ≤ 64 * k
+unfolding distance
+distance-bound gap m h zero l = omega arith
+distance-bound gap m h (suc k) l = omega (arith, distance-bound gap m h k (omega arith), h (suc k) l)

@@ -10,7 +10,7 @@ use Rattle.matching.specs.Collections.{Every, none, more}
 use Rattle.matching.specs.Laws.Sums.{gather}
 use Rattle.matching.specs.Occurrences.{places}
 use Rattle.matching.specs.Written.{flat, written}
-use Rattle.counting.specs.Walks.{run, put}
+use Rattle.counting.specs.Steps.Walks.{run, put}
 
 -- ---- runs
 

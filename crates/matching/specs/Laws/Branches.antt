@@ -1,20 +1,20 @@
 -- All occurrences depth first: the rows from a slot on that start at a place, enumerated and counted. It computes fast.
 use Prim.Native.Nat.{ℕ, zero, suc, _+_, _-_, _≤_, _<_}
 use native.Mathlib.Omega.{arith}
-use mathlib.Core.Path.{_≡_, refl, ap, _∙_}
+use mathlib.Core.Path.{_≡_, refl, sym, ap, _∙_}
 use mathlib.Core.Bool.{Bool, true, false, _&&_, and-eq-true-iff}
 use mathlib.Core.List.{List, [], _∷_, map, List·Memᴰ, List·Memᴰ·head, Memᴰ·map}
 use lib.ListN.{length, length-map}
-use lib.Dec.{leb, ltb}
-use borrow.Author.Tests.{leb-true, le-leb}
+use lib.Dec.{leb, ltb, eqb}
+use borrow.Author.Tests.{leb-true, le-leb, eqb-true, eq-eqb}
 use Rattle.pattern.specs.declared.Pattern.{Pattern}
 use Rattle.matching.specs.Occurrence.{View, OccursIn, at}
 use Rattle.pattern.specs.Patterns.{slotAt}
 use Rattle.matching.specs.Collections.{Every, Pairwise, none, more}
-use Rattle.matching.specs.Laws.Collections.{every-of, every-map, every-mem, every-both, pairwise-append, map-every, map-pairwise}
-use Rattle.matching.specs.Occurrences.{Lex, here, after, places, occurrencesIn}
-use Rattle.matching.specs.Laws.Enumeration.{places-mem, places-rise, occurrences-iff, occurrences-lex}
-use Rattle.matching.specs.Laws.Sums.{total, gather, gather-mem, gather-every, length-gather}
+use Rattle.matching.specs.Laws.Collections.{every-of, every-map, every-mem, every-both, pairwise-append, select-every, select-keeps, select-pairwise, select-mem, map-every, map-pairwise}
+use Rattle.matching.specs.Occurrences.{Lex, here, after, places, occurrencesIn, startingIn}
+use Rattle.matching.specs.Laws.Enumeration.{places-mem, places-rise, occurrences-occur, occurrences-iff, occurrences-lex}
+use Rattle.matching.specs.Laws.Sums.{total, total-same, gather, gather-mem, gather-every, length-gather}
 use Rattle.matching.specs.Laws.Ordering.{lex-unique}
 
 -- a list where the test holds, and none where not
@@ -221,3 +221,27 @@ module _ (f : Pattern) (v : View) (stops : ℕ → ℕ → ℕ) (froms : ℕ →
     count-forest =
         ap length occurrences-forest
         ∙ length-gather tree (λ p. ways f v (stops p) (froms p) (f .count - 1) 0 p) (v .places) 1 (λ p. length-branches f v (stops p) (froms p) (f .count - 1) 0 p)
+
+    -- those that start at a place, and their number
+    module _ (p : ℕ) (one : 1 ≤ p) (inside : p ≤ v .places) where
+      pub starting-tree : startingIn f v p ≡ tree p
+      unfolding startingIn tree
+      starting-tree =
+          lex-unique (select-pairwise (λ r. eqb (at r 0) p) (occurrences-lex f v)) (branches-lex f v (stops p) (froms p) (f .count - 1) 0 p)
+          (λ r m.
+          let e = eqb-true (at r 0) p (every-mem (select-every {P = λ r. eqb (at r 0) p ≡ true} (λ r. eqb (at r 0) p) (λ r h. h) (occurrencesIn f v)) m) in
+          let o = covers .into r (every-mem (select-keeps (λ r. eqb (at r 0) p) (occurrences-occur f v)) m) in
+          rw e at (part-branch f v (stops (at r 0)) (froms (at r 0)) (o .0)))
+          (λ r m.
+          let e = starts-at (every-mem (tree-start p) m) in
+          select-mem (λ r. eqb (at r 0) p) (occurrences-iff f v r .1 (every-mem (tree-occurs p (one, omega arith)) m)) (eq-eqb (at r 0) p e))
+
+      pub count-starting : length (startingIn f v p) ≡ ways f v (stops p) (froms p) (f .count - 1) 0 p
+      unfolding tree
+      count-starting = ap length starting-tree ∙ length-branches f v (stops p) (froms p) (f .count - 1) 0 p
+
+    -- the occurrences are those that start at each place
+    pub count-places : length (occurrencesIn f v) ≡ total (v .places) (λ p. length (startingIn f v p)) 1
+    count-places =
+        count-forest
+        ∙ total-same (v .places) (λ p. ways f v (stops p) (froms p) (f .count - 1) 0 p) (λ p. length (startingIn f v p)) 1 1 (λ i h. sym (count-starting (1 + i) (omega arith) (omega arith)))

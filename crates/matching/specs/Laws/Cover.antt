@@ -10,19 +10,22 @@ use borrow.Author.Tests.{ltb-true, lt-ltb}
 use Rattle.pattern.specs.declared.Pattern.{Pattern}
 use Rattle.matching.specs.Occurrence.{View, OccursIn, at}
 use Rattle.pattern.specs.Patterns.{slotAt}
-use Rattle.matching.specs.Laws.Branches.{stands, Part, part-size, part-stands, part-gap, part-last, part-of, Covers, forest, occurrences-forest, ways, count-forest}
+use Rattle.matching.specs.Laws.Branches.{stands, Part, part-size, part-stands, part-gap, part-last, part-of, Covers, tree, forest, occurrences-forest, ways, count-forest, starting-tree, count-starting, count-places}
 use Rattle.matching.specs.Laws.Sums.{total}
-use Rattle.matching.specs.Occurrences.{occurrencesIn}
+use Rattle.matching.specs.Occurrences.{occurrencesIn, startingIn}
+
+-- the distance from the first place to that at slot k, where the gap before each slot j has `gap j` words
+unfoldable pub distance : (ℕ → ℕ) → ℕ → ℕ
+distance gap zero = 0
+distance gap (suc k) = distance gap k + gap (suc k) + 1
 
 module _ (f : Pattern) where
   -- the least and the largest distance from the first place to the place at slot k
-  unfoldable pub near : ℕ → ℕ
-  near zero = 0
-  near (suc k) = near k + slotAt f (suc k) .low + 1
+  abbrev pub near : ℕ → ℕ
+  near k = distance (λ j. slotAt f j .low) k
 
-  unfoldable pub far : ℕ → ℕ
-  far zero = 0
-  far (suc k) = far k + slotAt f (suc k) .high + 1
+  abbrev pub far : ℕ → ℕ
+  far k = distance (λ j. slotAt f j .high) k
 
   -- the number of places that a row can span, and the slots' stops and the least last place of the rows with the first place p
   unfoldable pub width : ℕ
@@ -34,21 +37,17 @@ module _ (f : Pattern) where
   unfoldable pub least : ℕ → ℕ
   least p = p + f .least - 1
 
-  -- and their number
-  unfoldable pub starting : View → ℕ → ℕ
-  starting v p = ways f v (limit v p) (least p) (f .count - 1) 0 p
-
   -- the gaps of a row, slot by slot
   abbrev pub Gaps : List ℕ → ℕ → Type 0
   Gaps r k = (i : ℕ) → i < k → (at r i + slotAt f (suc i) .low + 1 ≤ at r (suc i)) × (at r (suc i) ≤ at r i + slotAt f (suc i) .high + 1)
 
   gaps-near : (r : List ℕ) (k : ℕ) → Gaps r k → (i : ℕ) → i ≤ k → at r 0 + near i ≤ at r i
-  unfolding near
+  unfolding distance
   gaps-near r k g zero h = omega arith
   gaps-near r k g (suc i) h = omega (arith, gaps-near r k g i (omega arith), g i (omega arith))
 
   gaps-far : (r : List ℕ) (k : ℕ) → Gaps r k → (i : ℕ) → i ≤ k → at r i ≤ at r 0 + far i
-  unfolding far
+  unfolding distance
   gaps-far r k g zero h = omega arith
   gaps-far r k g (suc i) h = omega (arith, gaps-far r k g i (omega arith), g i (omega arith))
 
@@ -122,16 +121,25 @@ module _ (f : Pattern) where
           (omega (arith, gaps-near r (f .count - 1) g (f .count - 1) (omega arith)), omega (arith, gaps-far r (f .count - 1) g (f .count - 1) (omega arith), part-below q (f .count - 1) (omega arith) .0));
     }
 
-    -- ---- all occurrences, and their number
+    -- ---- all occurrences, and how many start at each place
 
     -- every occurrence, depth first: this computes
     pub occurrences-each : 1 ≤ f .least → occurrencesIn f v ≡ forest f v (limit v) least
     occurrences-each h = occurrences-forest f v (limit v) least (covers-each h)
 
-    pub tally-each : 1 ≤ f .least → length (occurrencesIn f v) ≡ total (v .places) (starting v) 1
-    unfolding starting
+    pub tally-each : 1 ≤ f .least → length (occurrencesIn f v) ≡ total (v .places) (λ p. ways f v (limit v p) (least p) (f .count - 1) 0 p) 1
     tally-each h = count-forest f v (limit v) least (covers-each h)
 
-    pub tally-all : f .least ≤ near (f .count - 1) + 1 → min (far (f .count - 1) + 1) (v .places) ≤ f .most
-        → length (occurrencesIn f v) ≡ total (v .places) (ways f v (λ j. v .places + 1) 0 (f .count - 1) 0) 1
-    tally-all l m = count-forest f v (λ p j. v .places + 1) (λ p. 0) (covers-all l m)
+    pub tally-places : 1 ≤ f .least → length (occurrencesIn f v) ≡ total (v .places) (λ p. length (startingIn f v p)) 1
+    tally-places h = count-places f v (limit v) least (covers-each h)
+
+    module _ (p : ℕ) (one : 1 ≤ p) (inside : p ≤ v .places) where
+      pub starting-each : 1 ≤ f .least → startingIn f v p ≡ tree f v (limit v) least p
+      starting-each h = starting-tree f v (limit v) least (covers-each h) p one inside
+
+      pub count-each : 1 ≤ f .least → length (startingIn f v p) ≡ ways f v (limit v p) (least p) (f .count - 1) 0 p
+      count-each h = count-starting f v (limit v) least (covers-each h) p one inside
+
+      pub count-all : f .least ≤ near (f .count - 1) + 1 → min (far (f .count - 1) + 1) (v .places) ≤ f .most
+          → length (startingIn f v p) ≡ ways f v (λ j. v .places + 1) 0 (f .count - 1) 0 p
+      count-all l m = count-starting f v (λ p j. v .places + 1) (λ p. 0) (covers-all l m) p one inside

@@ -19,7 +19,7 @@ use Rattle.matching.specs.Texts.{oneWord, patternOf, text-one, text-thre
 use Rattle.matching.specs.Laws.Tests.{occurs-iff}
 use Rattle.matching.specs.Laws.Sums.{gather}
 use Rattle.matching.specs.Laws.Branches.{only, stands, branches, tree, forest}
-use Rattle.matching.specs.Laws.Cover.{far, width, limit, least, occurrences-each}
+use Rattle.matching.specs.Laws.Cover.{distance, width, limit, least, occurrences-each}
 use Rattle.matching.specs.Laws.Extremes.{earliest-none, latest-none}
 
 -- the lists from the occurrences that were found
@@ -40,7 +40,7 @@ module _ {f : Pattern} {t : List ℕ} {hits : List (List ℕ)} (found : occurren
       }
 
 hits-one : occurrences pattern-one text-one ≡ (1 ∷ 3 ∷ 5 ∷ []) ∷ (5 ∷ 7 ∷ 8 ∷ []) ∷ (6 ∷ 7 ∷ 8 ∷ []) ∷ []
-unfolding pattern-one text-one patternOf oneWord forest tree gather places branches only stands takes member far width limit least
+unfolding pattern-one text-one patternOf oneWord forest tree gather places branches only stands takes member distance width limit least
 hits-one = occurrences-each pattern-one (plain pattern-one text-one) (lit≤ tt) (lit≤ tt)
 
 one : Results pattern-one text-one
@@ -52,7 +52,7 @@ unfolding pattern-one text-one patternOf oneWord follow onward earliestOf latest
 one = results hits-one refl refl refl refl
 
 hits-two : occurrences pattern-two text-one ≡ (1 ∷ 3 ∷ 5 ∷ []) ∷ (5 ∷ 7 ∷ 8 ∷ []) ∷ []
-unfolding pattern-two text-one patternOf oneWord forest tree gather places branches only stands takes member far width limit least
+unfolding pattern-two text-one patternOf oneWord forest tree gather places branches only stands takes member distance width limit least
 hits-two = occurrences-each pattern-two (plain pattern-two text-one) (lit≤ tt) (lit≤ tt)
 
 two : Results pattern-two text-one
@@ -64,7 +64,7 @@ unfolding pattern-two text-one patternOf oneWord follow onward earliestOf latest
 two = results hits-two refl refl refl refl
 
 hits-three : occurrences pattern-three text-three ≡ (2 ∷ 3 ∷ 5 ∷ []) ∷ (2 ∷ 4 ∷ 5 ∷ []) ∷ (5 ∷ 6 ∷ 7 ∷ []) ∷ []
-unfolding pattern-three text-three patternOf oneWord forest tree gather places branches only stands takes member far width limit least
+unfolding pattern-three text-three patternOf oneWord forest tree gather places branches only stands takes member distance width limit least
 hits-three = occurrences-each pattern-three (plain pattern-three text-three) (lit≤ tt) (lit≤ tt)
 
 three : Results pattern-three text-three
@@ -76,7 +76,7 @@ unfolding pattern-three text-three patternOf oneWord follow onward earliestOf la
 three = results hits-three refl refl refl refl
 
 hits-four : occurrences pattern-four text-four ≡ (1 ∷ 3 ∷ 4 ∷ 8 ∷ []) ∷ (4 ∷ 5 ∷ 6 ∷ 8 ∷ []) ∷ (4 ∷ 5 ∷ 6 ∷ 9 ∷ []) ∷ (4 ∷ 5 ∷ 7 ∷ 9 ∷ []) ∷ []
-unfolding pattern-four text-four patternOf oneWord forest tree gather places branches only stands takes member far width limit least
+unfolding pattern-four text-four patternOf oneWord forest tree gather places branches only stands takes member distance width limit least
 hits-four = occurrences-each pattern-four (plain pattern-four text-four) (lit≤ tt) (lit≤ tt)
 
 four : Results pattern-four text-four
@@ -88,7 +88,7 @@ unfolding pattern-four text-four patternOf oneWord follow onward earliestOf late
 four = results hits-four refl refl refl refl
 
 hits-five : occurrences pattern-five text-five ≡ (1 ∷ 2 ∷ 5 ∷ 7 ∷ []) ∷ (1 ∷ 4 ∷ 5 ∷ 7 ∷ []) ∷ (3 ∷ 4 ∷ 5 ∷ 7 ∷ []) ∷ (3 ∷ 6 ∷ 8 ∷ 9 ∷ []) ∷ (7 ∷ 10 ∷ 11 ∷ 12 ∷ []) ∷ (9 ∷ 10 ∷ 11 ∷ 12 ∷ []) ∷ (12 ∷ 13 ∷ 15 ∷ 16 ∷ []) ∷ (12 ∷ 14 ∷ 15 ∷ 16 ∷ []) ∷ []
-unfolding pattern-five text-five patternOf oneWord forest tree gather places branches only stands takes member far width limit least
+unfolding pattern-five text-five patternOf oneWord forest tree gather places branches only stands takes member distance width limit least
 hits-five = occurrences-each pattern-five (plain pattern-five text-five) (lit≤ tt) (lit≤ tt)
 
 five : Results pattern-five text-five
@@ -100,7 +100,7 @@ unfolding pattern-five text-five patternOf oneWord follow onward earliestOf late
 five = results hits-five refl refl refl refl
 
 hits-six : occurrences pattern-six text-six ≡ (1 ∷ 2 ∷ 4 ∷ []) ∷ (1 ∷ 2 ∷ 6 ∷ []) ∷ (1 ∷ 3 ∷ 6 ∷ []) ∷ (1 ∷ 5 ∷ 8 ∷ []) ∷ (1 ∷ 5 ∷ 9 ∷ []) ∷ []
-unfolding pattern-six text-six patternOf oneWord forest tree gather places branches only stands takes member far width limit least
+unfolding pattern-six text-six patternOf oneWord forest tree gather places branches only stands takes member distance width limit least
 hits-six = occurrences-each pattern-six (plain pattern-six text-six) (lit≤ tt) (lit≤ tt)
 
 six : Results pattern-six text-six
@@ -112,7 +112,7 @@ unfolding pattern-six text-six patternOf oneWord follow onward earliestOf latest
 six = results hits-six refl refl refl refl
 
 hits-seven : occurrences pattern-seven text-seven ≡ (2 ∷ 3 ∷ 5 ∷ []) ∷ []
-unfolding pattern-seven text-seven patternOf oneWord forest tree gather places branches only stands takes member far width limit least
+unfolding pattern-seven text-seven patternOf oneWord forest tree gather places branches only stands takes member distance width limit least
 hits-seven = occurrences-each pattern-seven (plain pattern-seven text-seven) (lit≤ tt) (lit≤ tt)
 
 seven : Results pattern-seven text-seven
@@ -124,7 +124,7 @@ unfolding pattern-seven text-seven patternOf oneWord follow onward earliestOf la
 seven = results hits-seven refl refl refl refl
 
 hits-eight : occurrences pattern-eight text-eight ≡ (1 ∷ 2 ∷ 4 ∷ []) ∷ []
-unfolding pattern-eight text-eight patternOf oneWord forest tree gather places branches only stands takes member far width limit least
+unfolding pattern-eight text-eight patternOf oneWord forest tree gather places branches only stands takes member distance width limit least
 hits-eight = occurrences-each pattern-eight (plain pattern-eight text-eight) (lit≤ tt) (lit≤ tt)
 
 eight : Results pattern-eight text-eight

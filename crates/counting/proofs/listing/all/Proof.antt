@@ -1,15 +1,65 @@
 -- `counting::listing::all` meets its contract: the list is too short exactly where it has room for fewer rows than there are.
-use native.Mathlib.Omega.{arith}
 use Prim.Native.Nat.{ℕ, _<_, _^_}
-use mathlib.Core.Path.{sym, _∙_}
+use native.Mathlib.Omega.{arith}
+use mathlib.Core.Path.{_≡_, sym, _∙_}
 use lib.ListN.{length, length-replicate}
+use Rattle.pattern.specs.Tests.{inputVerdict}
+use Rattle.pattern.specs.declared.refusal.Verdict.the-variants.{Accepted}
 use Rattle.matching.specs.Occurrence.{plain}
+use Rattle.matching.specs.Occurrences.{occurrences}
+use Rattle.counting.specs.Inputs.{Input}
+use Rattle.counting.specs.Numbers.{value}
 use Rattle.counting.specs.Laws.Inputs.{passed}
-use Rattle.counting.proofs.Passes.{marks-new}
+use Rattle.counting.specs.Steps.Plans.{Known}
+use Rattle.counting.proofs.Columns.{long-new, known}
 use Rattle.counting.proofs.Answers.{all-refused, all-short, all-fine, all-wide, low-half, all-over, all-room}
 use borrow.Author.Needs.{needs}
 use Rattle.counting.proofs.listing.all.Statement.{statement}
 use Rattle.counting.proofs.listing.all.Tie as tie
+
+-- ---- the places of the body, from each back to one before
+
+abbrev check-at : tie.After-fits2 → tie.After-check-with
+check-at c = c .before .before .before
+
+abbrev start : tie.After-fits2 → tie.Start
+start c = check-at c .before .before .before
+
+abbrev table-at : tie.After-fits4 → tie.After-tabulate
+table-at c = c .before .before
+
+abbrev count-at : tie.After-struct-known → tie.After-count
+count-at c = c .before
+
+abbrev narrow-at : tie.After-struct-known2 → tie.Else1
+narrow-at c = c .before
+
+abbrev room-at : tie.After-put-all-arg → tie.Else2
+room-at c = c .before .before
+
+abbrev put-at : tie.After-slice-known2 → tie.After-put-all
+put-at c = c .before .before
+
+-- ---- what is known there
+
+accepted : (c : tie.After-fits2) → inputVerdict (start c .args .pattern) (length (start c .args .text .now)) ≡ Accepted
+accepted c = sym (check-at c .check-with .ensures) ∙ c .before .enum-told .given .1
+
+ok : (c : tie.After-fits2) → Input (start c .args .pattern) (plain (start c .args .pattern) (start c .args .text .now))
+ok c = passed (plain (start c .args .pattern) (start c .args .text .now)) (accepted c)
+
+abbrev table : (c : tie.After-fits4) → Known (start (table-at c .before) .args .pattern) (length (start (table-at c .before) .args .text .now)) (table-at c .tabulate .last .1 .1 .0)
+table c = known (ok (table-at c .before)) (table-at c .tabulate .ensures)
+
+short : (c : tie.After-slice-known) → length (c .before .before .args .list .now) < 2 ^ 64
+short c = omega arith
+
+-- where the number is known
+abbrev first : tie.After-count → tie.After-fits2
+first c = table-at (c .before) .before
+
+number : (c : tie.After-count) → value (c .count .result) ≡ length (occurrences (start (first c) .args .pattern) (start (first c) .args .text .now))
+number c = c .count .ensures (table (c .before))
 
 check-with-requires : tie.Need-check-with-requires
 check-with-requires c κs = search needs
@@ -18,43 +68,50 @@ enum-known-verdict : tie.Need-enum-known-verdict
 enum-known-verdict c = search needs
 
 returns : tie.Need-returns
-returns c = let f = c .before .before .before .before .before .before .args .pattern in let t = c .before .before .before .before .before .before .args .text .now in let l = c .before .before .before .before .before .before .args .list .now in all-refused f t l (sym (c .before .before .before .check-with .ensures) ∙ c .before .verdict .given .1)
+returns c = let k = c .before .before .before in let a = k .before .before .before .args in all-refused (a .pattern) (a .text .now) (a .list .now) (sym (k .check-with .ensures) ∙ c .before .verdict .given .1)
 
 enum-told : tie.Need-enum-told
 enum-told c = search needs
 
-slice-aggregate-mark : tie.Need-slice-aggregate-mark
-slice-aggregate-mark c = sym (length-replicate {A = ℕ} 320000 0)
+slice-aggregate-tabulate : tie.Need-slice-aggregate-tabulate
+slice-aggregate-tabulate c = sym (length-replicate {A = ℕ} 320000 0)
 
-mark-requires : tie.Need-mark-requires
-mark-requires c κs = (passed (plain (c .before .before .before .before .before .before .args .pattern) (c .before .before .before .before .before .before .args .text .now)) (sym (c .before .before .before .check-with .ensures) ∙ c .before .enum-told .given .1), marks-new 320000)
+tabulate-requires : tie.Need-tabulate-requires
+tabulate-requires c κs = (ok c, long-new 320000)
 
 slice-aggregate-count : tie.Need-slice-aggregate-count
 slice-aggregate-count c = search needs
 
 count-requires : tie.Need-count-requires
-count-requires c κs = (passed (plain (c .before .before .before .before .before .before .before .before .before .args .pattern) (c .before .before .before .before .before .before .before .before .before .args .text .now)) (sym (c .before .before .before .before .before .before .check-with .ensures) ∙ c .before .before .before .before .enum-told .given .1), c .before .before .mark .ensures)
+count-requires c κs = table c
 
 returns-2 : tie.Need-returns-2
-returns-2 c = let f = c .before .before .before .before .before .before .before .before .before .before .before .before .args .pattern in let t = c .before .before .before .before .before .before .before .before .before .before .before .before .args .text .now in let l = c .before .before .before .before .before .before .before .before .before .before .before .before .args .list .now in let e = sym (c .before .before .before .before .before .before .before .before .before .check-with .ensures) ∙ c .before .before .before .before .before .before .before .enum-told .given .1 in let ok = passed (plain f t) e in let s : length l < 2 ^ 64 = omega arith in all-short f t l e (all-wide f t l (ok .pattern .some) (c .before .before .count .result) (c .before .before .count .ensures) (c .if1 .taken) s)
+returns-2 c = let k = count-at (c .before) in let b = first k in let a = start b .args in
+    all-short (a .pattern) (a .text .now) (a .list .now) (accepted b) (all-wide (a .pattern) (a .text .now) (a .list .now) (ok b .pattern .some) (k .count .result) (number k) (c .if1 .taken) (short (check-at b .before)))
 
 div-if2 : tie.Need-div-if2
-div-if2 c = let f = c .before .before .before .before .before .before .before .before .before .before .before .before .before .args .pattern in let t = c .before .before .before .before .before .before .before .before .before .before .before .before .before .args .text .now in let e = sym (c .before .before .before .before .before .before .before .before .before .before .check-with .ensures) ∙ c .before .before .before .before .before .before .before .before .enum-told .given .1 in let ok = passed (plain f t) e in omega (arith, ok .pattern .some)
+div-if2 c = let k = count-at (narrow-at c .before) in omega (arith, ok (first k) .pattern .some)
 
 returns-3 : tie.Need-returns-3
-returns-3 c = let f = c .before .before .before .before .before .before .before .before .before .before .before .before .before .before .args .pattern in let t = c .before .before .before .before .before .before .before .before .before .before .before .before .before .before .args .text .now in let l = c .before .before .before .before .before .before .before .before .before .before .before .before .before .before .args .list .now in let e = sym (c .before .before .before .before .before .before .before .before .before .before .before .check-with .ensures) ∙ c .before .before .before .before .before .before .before .before .before .enum-told .given .1 in let ok = passed (plain f t) e in all-short f t l e (all-over f t l (ok .pattern .some) (c .before .before .before .before .count .result) (c .before .before .before .before .count .ensures) (c .before .before .if1 .left) (c .if2 .taken))
+returns-3 c = let e = narrow-at (c .before) in let k = count-at (e .before) in let b = first k in let a = start b .args in
+    all-short (a .pattern) (a .text .now) (a .list .now) (accepted b) (all-over (a .pattern) (a .text .now) (a .list .now) (ok b .pattern .some) (k .count .result) (number k) (e .if1 .left) (c .if2 .taken))
 
 slice-aggregate-put-all : tie.Need-slice-aggregate-put-all
 slice-aggregate-put-all c = search needs
 
 put-all-requires : tie.Need-put-all-requires
-put-all-requires c κs = let f = c .before .before .before .before .before .before .before .before .before .before .before .before .before .before .before .before .args .pattern in let t = c .before .before .before .before .before .before .before .before .before .before .before .before .before .before .before .before .args .text .now in let l = c .before .before .before .before .before .before .before .before .before .before .before .before .before .before .before .before .args .list .now in let e = sym (c .before .before .before .before .before .before .before .before .before .before .before .before .before .check-with .ensures) ∙ c .before .before .before .before .before .before .before .before .before .before .before .enum-told .given .1 in let ok = passed (plain f t) e in (ok, (c .before .before .before .before .before .before .before .before .before .mark .ensures, all-room f t l (ok .pattern .some) (c .before .before .before .before .before .before .count .result) (c .before .before .before .before .before .before .count .ensures) (c .before .before .before .before .if1 .left) (c .before .before .if2 .left)))
+put-all-requires c κs = let r = room-at c in let e = narrow-at (r .before) in let k = count-at (e .before) in let b = first k in let a = start b .args in
+    record { known = table (k .before); room = all-room (a .pattern) (a .text .now) (a .list .now) (ok b .pattern .some) (k .count .result) (number k) (e .if1 .left) (r .if2 .left) }
 
 same-length : tie.Need-same-length
 same-length c = search needs
 
 returns-4 : tie.Need-returns-4
-returns-4 c = let f = c .before .before .before .before .before .before .before .before .before .before .before .before .before .before .before .before .before .before .before .args .pattern in let t = c .before .before .before .before .before .before .before .before .before .before .before .before .before .before .before .before .before .before .before .args .text .now in let l = c .before .before .before .before .before .before .before .before .before .before .before .before .before .before .before .before .before .before .before .args .list .now in let e = sym (c .before .before .before .before .before .before .before .before .before .before .before .before .before .before .before .before .check-with .ensures) ∙ c .before .before .before .before .before .before .before .before .before .before .before .before .before .before .enum-told .given .1 in let ok = passed (plain f t) e in let w = c .before .before .before .before .before .before .before .before .before .count .result in all-fine f t l e (all-room f t l (ok .pattern .some) w (c .before .before .before .before .before .before .before .before .before .count .ensures) (c .before .before .before .before .before .before .before .if1 .left) (c .before .before .before .before .before .if2 .left)) (low-half f t l (ok .pattern .some) w (c .before .before .before .before .before .before .before .before .before .count .ensures) (c .before .before .before .before .before .before .before .if1 .left)) (c .before .before .put-all .ensures)
+returns-4 c = let p = put-at c in let r = room-at (p .before) in let e = narrow-at (r .before) in let k = count-at (e .before) in let b = first k in let a = start b .args in
+    let some = ok b .pattern .some in let w = k .count .result in let n = number k in
+    let room = all-room (a .pattern) (a .text .now) (a .list .now) some w n (e .if1 .left) (r .if2 .left) in
+    all-fine (a .pattern) (a .text .now) (a .list .now) (accepted b) room (low-half (a .pattern) (a .text .now) (a .list .now) some w n (e .if1 .left))
+    (p .put-all .ensures (record { known = table (k .before); room = room }))
 
 pub all-spec : {M : Type 1} → statement M
 all-spec =
@@ -64,8 +121,8 @@ all-spec =
     enum-known-verdict
     returns
     enum-told
-    slice-aggregate-mark
-    mark-requires
+    slice-aggregate-tabulate
+    tabulate-requires
     slice-aggregate-count
     count-requires
     returns-2

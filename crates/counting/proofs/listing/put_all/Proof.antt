@@ -1,72 +1,102 @@
--- `counting::listing::put_all` meets its contract: either way of writing does.
-use native.Mathlib.Omega.{arith}
+-- `counting::listing::put_all` meets its contract: either way writes all occurrences.
 use Prim.Native.Nat.{ℕ}
-use lib.ListN.{length-replicate}
 use mathlib.Core.Path.{sym, _∙_}
-use Rattle.matching.specs.Laws.Cover.{width}
-use Rattle.counting.proofs.Passes.{marks-new}
+use lib.ListN.{length, length-replicate}
+use Rattle.counting.specs.Steps.Listings.{PutAll, PutWhole, PutEach}
+use Rattle.counting.proofs.Columns.{long-new, planned}
 use borrow.Author.Needs.{needs}
 use Rattle.counting.proofs.listing.put_all.Statement.{statement}
 use Rattle.counting.proofs.listing.put_all.Tie as tie
 
-farthest-requires : tie.Need-farthest-requires
-farthest-requires c κs = search needs
+-- ---- the places of the body, from each back to one before
 
-unbound-requires : tie.Need-unbound-requires
-unbound-requires c κs = search needs
+abbrev outline-at : tie.After-high → tie.After-of
+outline-at c = c .before .before
+
+abbrev start : tie.After-high → tie.Start
+start c = outline-at c .before .before .before
+
+abbrev free-at : tie.After-put-whole-arg → tie.Then1
+free-at c = c .before .before .before .before
+
+abbrev whole-at : tie.After-slice-known2 → tie.After-put-whole
+whole-at c = c .before .before .before
+
+abbrev bound-at : tie.After-put-each-arg → tie.Else1
+bound-at c = c .before .before .before .before
+
+abbrev each-at : tie.After-slice-known3 → tie.After-put-each
+each-at c = c .before .before .before
+
+-- ---- what is known there
+
+abbrev Given : tie.Start → Type 0
+Given c = PutAll (c .args .f) (c .args .n) (c .args .fits .now) (length (c .args .list .now))
+
+module _ (c : tie.Then1) (g : Given (start (c .before))) where
+  abbrev putWhole : PutWhole (start (c .before) .args .f .count) (start (c .before) .args .n) (outline-at (c .before) .of .result .reach)
+      (outline-at (c .before) .of .result .low) (outline-at (c .before) .of .result .high) (start (c .before) .args .fits .now) (length (start (c .before) .args .list .now))
+  putWhole = let o = outline-at (c .before) .of .ensures in record { plan = planned (g .known) o; free = sym (o .free) ∙ c .if1 .taken; room = g .room }
+
+module _ (c : tie.Else1) (g : Given (start (c .before))) where
+  abbrev putEach : PutEach (start (c .before) .args .f .count) (start (c .before) .args .n) (outline-at (c .before) .of .result .reach)
+      (outline-at (c .before) .of .result .least) (outline-at (c .before) .of .result .span)
+      (outline-at (c .before) .of .result .low) (outline-at (c .before) .of .result .high) (start (c .before) .args .fits .now) (length (start (c .before) .args .list .now))
+  putEach = let o = outline-at (c .before) .of .ensures in record { plan = planned (g .known) o; from = o .shortest; wide = o .widest; room = g .room }
+
+of-requires : tie.Need-of-requires
+of-requires c κs = c .before .before .pre .known .input .pattern
 
 slice-aggregate-put-whole : tie.Need-slice-aggregate-put-whole
-slice-aggregate-put-whole c = sym (length-replicate {A = ℕ} 320016 0)
+slice-aggregate-put-whole c = search needs
+
+slice-aggregate-put-whole-2 : tie.Need-slice-aggregate-put-whole-2
+slice-aggregate-put-whole-2 c = search needs
+
+slice-aggregate-put-whole-3 : tie.Need-slice-aggregate-put-whole-3
+slice-aggregate-put-whole-3 c = sym (length-replicate {A = ℕ} 320016 0)
 
 put-whole-requires : tie.Need-put-whole-requires
-put-whole-requires c κs = (c .before .before .before .before .before .before .before .before .pre .0, (c .before .before .before .before .before .before .before .before .pre .1 .0, (sym (c .before .before .before .unbound .ensures) ∙ c .before .before .if1 .taken, c .before .before .before .before .farthest .ensures .0, marks-new 320016, c .before .before .before .before .before .before .before .before .pre .1 .1)))
+put-whole-requires c κs = let t = free-at c in (putWhole t (start (t .before) .pre), long-new 320016)
 
 same-length : tie.Need-same-length
 same-length c = search needs
 
 returns : tie.Need-returns
-returns c = search needs
-
-widen-requires : tie.Need-widen-requires
-widen-requires c κs = search needs
-
-add-clip : tie.Need-add-clip
-add-clip c = search needs
-
-clip-requires : tie.Need-clip-requires
-clip-requires c κs = search needs
+returns c = λ g. let w = whole-at c in w .put-whole .ensures (putWhole (free-at (w .before)) g)
 
 slice-aggregate-put-each : tie.Need-slice-aggregate-put-each
-slice-aggregate-put-each c = sym (length-replicate {A = ℕ} 320016 0)
+slice-aggregate-put-each c = search needs
+
+slice-aggregate-put-each-2 : tie.Need-slice-aggregate-put-each-2
+slice-aggregate-put-each-2 c = search needs
+
+slice-aggregate-put-each-3 : tie.Need-slice-aggregate-put-each-3
+slice-aggregate-put-each-3 c = sym (length-replicate {A = ℕ} 320016 0)
 
 put-each-requires : tie.Need-put-each-requires
-unfolding width
-put-each-requires c κs = let far = c .before .before .before .before .before .before .farthest .ensures in
-    let most = c .before .before .before .widen .ensures in
-    let e = c .before .before .clip .ensures in
-    let ok = c .before .before .before .before .before .before .before .before .before .before .pre .0 in
-    (ok, (c .before .before .before .before .before .before .before .before .before .before .pre .1 .0, (far .0, omega (arith, e, far .0, most .0), omega (arith, e, far .0, most .0, ok .pattern .least, ok .pattern .ordered), marks-new 320016, c .before .before .before .before .before .before .before .before .before .before .pre .1 .1)))
+put-each-requires c κs = let t = bound-at c in (putEach t (start (t .before) .pre), long-new 320016)
 
 same-length-2 : tie.Need-same-length-2
 same-length-2 c = search needs
 
 returns-2 : tie.Need-returns-2
-returns-2 c = search needs
+returns-2 c = λ g. let w = each-at c in w .put-each .ensures (putEach (bound-at (w .before)) g)
 
 pub put-all-spec : {M : Type 1} → statement M
 put-all-spec =
     tie.close
     (tie.spec
-    farthest-requires
-    unbound-requires
+    of-requires
     slice-aggregate-put-whole
+    slice-aggregate-put-whole-2
+    slice-aggregate-put-whole-3
     put-whole-requires
     same-length
     returns
-    widen-requires
-    add-clip
-    clip-requires
     slice-aggregate-put-each
+    slice-aggregate-put-each-2
+    slice-aggregate-put-each-3
     put-each-requires
     same-length-2
     returns-2)

@@ -1,56 +1,124 @@
--- `counting::reach::reach_all` meets its contract. The invariant: the table is done from slot j on.
+-- `counting::reach::reach_all` meets its contract. The invariant: the entries from slot j on say where a row goes on.
+use Prim.Native.Nat.{_-_, _≤_, _<_}
 use native.Mathlib.Omega.{arith}
-use Prim.Native.Nat.{_-_}
-use mathlib.Core.Path.{_∙_}
-use Rattle.counting.specs.Steps.{Window}
-use Rattle.counting.specs.Laws.Inputs.{gaps}
-use Rattle.counting.proofs.Counting.{reach-back, size-less, size-of, reach-bound}
+use mathlib.Core.Path.{_≡_, refl, _∙_}
+use lib.ListN.{length}
+use Rattle.pattern.specs.Patterns.{slotAt}
+use Rattle.counting.specs.Steps.Plans.{Run, runPattern, runView}
+use Rattle.counting.proofs.Counting.{Small, run-small, run-low, run-high, run-gap, reach-back, size-less, stage-small, stage-begin}
 use Rattle.counting.proofs.Tabling.{Tabling, tabling-begin, tabling-more, tabled}
 use borrow.Author.Needs.{needs}
 use Rattle.counting.proofs.reach.reach_all.Statement.{statement}
 use Rattle.counting.proofs.reach.reach_all.Tie as tie
 
 abbrev Inv-loop : tie.InvT-loop
-Inv-loop marks first n more reach from next₀ f j₀ r₀ m₀ next j r m = (w : Window f marks first n) → Tabling f (w .view) first n more from next₀ j r m next
+Inv-loop low high m reach fits w next₀ first j₀ r₀ n₀ next j r n = (length next ≡ length next₀) × ((g : Run m reach low high fits w) → Tabling (runPattern g) (runView g) w j r n next)
 
 abbrev μ-loop : tie.MeasureT-loop
-μ-loop marks first n more reach from next₀ f j₀ r₀ m₀ next j r m = j
+μ-loop low high m reach fits w next₀ first j₀ r₀ n₀ next j r n = j
+
+-- ---- the places of the body, from each back to one before
+
+abbrev start : tie.After-struct-known Inv-loop μ-loop → tie.Start Inv-loop μ-loop
+start c = c .before .before .before .before .before
+
+abbrev clip-at : tie.After-reach-last Inv-loop μ-loop → tie.After-clip Inv-loop μ-loop
+clip-at c = c .before .before
+
+abbrev last-at : tie.After-slice-known2 Inv-loop μ-loop → tie.After-reach-last Inv-loop μ-loop
+last-at c = c .before .before
+
+abbrev entry : tie.At-loop Inv-loop μ-loop → tie.Start Inv-loop μ-loop
+entry c = start (clip-at (last-at (c .before)) .before)
+
+abbrev low-at : tie.After-widen2 Inv-loop μ-loop → tie.After-widen Inv-loop μ-loop
+low-at c = c .before .before
+
+abbrev turn : tie.After-widen2 Inv-loop μ-loop → tie.In-loop Inv-loop μ-loop
+turn c = low-at c .before .before
+
+abbrev high-at : tie.After-clip2 Inv-loop μ-loop → tie.After-widen2 Inv-loop μ-loop
+high-at c = c .before .before
+
+abbrev on-at : tie.After-slice-known3 Inv-loop μ-loop → tie.After-reach-on Inv-loop μ-loop
+on-at c = c .before .before
+
+-- ---- what is known there
+
+abbrev RunAt : tie.Start Inv-loop μ-loop → Type 0
+RunAt c = Run (c .args .m) (c .args .reach) (c .args .low .now) (c .args .high .now) (c .args .fits .now) (c .args .w)
+
+abbrev run : (c : tie.Start Inv-loop μ-loop) → RunAt c
+run c = c .pre .0
+
+small : (c : tie.Start Inv-loop μ-loop) → Small (c .args .m) (c .args .reach) (c .args .low .now) (c .args .high .now) (c .args .fits .now) (c .args .w)
+small c = run-small (run c)
+
+-- the table that a turn begins with, for any pattern and view
+abbrev table : (c : tie.In-loop Inv-loop μ-loop) (g : RunAt (entry (c .before)))
+    → Tabling (runPattern g) (runView g) (entry (c .before) .args .w) (c .before .loop .j) (c .before .loop .r) (c .before .loop .n) (c .before .loop .next)
+table c g = c .before .loop .inv .1 g
+
+long : (c : tie.In-loop Inv-loop μ-loop) → 320016 ≤ length (c .before .loop .next)
+long c = omega (arith, c .before .loop .inv .0, last-at (c .before .before) .reach-last .kept .1 .1 .1 .1 .1 .1 .0, entry (c .before) .pre .1)
+
+module _ (c : tie.After-widen2 Inv-loop μ-loop) (g : RunAt (entry (turn c .before))) where
+  inside : turn c .before .loop .j < entry (turn c .before) .args .m
+  inside = table (turn c) g .here .inside
+
+  low : low-at c .widen .result ≡ slotAt (runPattern g) (turn c .before .loop .j) .low
+  low = run-low g inside (low-at c .widen .ensures .0)
+
+  high : c .widen2 .result ≡ slotAt (runPattern g) (turn c .before .loop .j) .high
+  high = run-high g inside (c .widen2 .ensures .0)
+
+-- how far slot j can be from the first, and the slot before it
+near : (c : tie.After-widen2 Inv-loop μ-loop) → turn c .before .loop .r ≤ 960
+near c = let g = run (entry (turn c .before)) in stage-small (g .plan .handed .input .pattern) (table (turn c) g .here) .0
+
+back : (c : tie.After-widen2 Inv-loop μ-loop) → (c .widen2 .result ≤ turn c .before .loop .r) × (1 ≤ turn c .before .loop .r - c .widen2 .result)
+back c = let g = run (entry (turn c .before)) in let b = reach-back (table (turn c) g .here) (turn c .loop-test .taken) (high c g) in (b .0, b .1)
 
 sub-j : tie.Need-sub-j Inv-loop μ-loop
-sub-j c = search needs
+sub-j c = let s = small (c .before .before .before .before) in omega arith
 
 add-clip : tie.Need-add-clip Inv-loop μ-loop
-add-clip c = let a = (c .before .before .args) in let w = c .before .before .pre .0 in let ok = w .input in omega (arith, reach-bound (ok .pattern) (a .t1 .count - 1) (omega arith))
-
-add-clip-2 : tie.Need-add-clip-2 Inv-loop μ-loop
-add-clip-2 c = let a = (c .before .before .args) in let w = c .before .before .pre .0 in let ok = w .input in omega (arith, reach-bound (ok .pattern) (a .t1 .count - 1) (omega arith))
+add-clip c = let s = small (start c) in omega arith
 
 clip-requires : tie.Need-clip-requires Inv-loop μ-loop
 clip-requires c κs = search needs
 
 mul-reach-last : tie.Need-mul-reach-last Inv-loop μ-loop
-mul-reach-last c = omega arith
+mul-reach-last c = let s = small (start (c .before)) in omega arith
 
 add-reach-last : tie.Need-add-reach-last Inv-loop μ-loop
-add-reach-last c = omega arith
+add-reach-last c = let s = small (start (c .before)) in omega arith
 
 mul-reach-last-2 : tie.Need-mul-reach-last-2 Inv-loop μ-loop
-mul-reach-last-2 c = omega arith
+mul-reach-last-2 c = let s = small (start (c .before)) in omega arith
 
 reach-last-requires : tie.Need-reach-last-requires Inv-loop μ-loop
-reach-last-requires c κs = (omega arith, omega arith, omega arith, omega arith)
+reach-last-requires c κs = let k = c .before in let b = start (k .before) in let s = small b in let e = k .clip .ensures in
+    (omega arith, omega arith, omega arith, omega (arith, b .pre .1))
 
 loop-holds : tie.Need-loop-holds Inv-loop μ-loop
-loop-holds c = λ w. let a = (c .before .before .before .before .before .before .before .args) in let ok = w .input in let some = ok .pattern .some in let mk = w .marks in let g = c .before .before .before .before .before .before .before .pre .1 in let z = size-of (a .t1) (a .n) (a .more) (a .reach) (a .t1 .count - 1) (c .before .before .before .before .clip .ensures) (g .1) in tabling-begin (a .t1) (w .view) (a .first) (a .n) (a .more) (a .from) mk some (w .inside) (g .1) (z .0) (c .before .before .reach-last .ensures)
+loop-holds c = let e = last-at c in let k = clip-at e in
+    (refl, λ g. let h = g .plan .handed in tabling-begin (h .table) (g .inside) (stage-begin _ (h .input .pattern .some) (h .farthest) (k .clip .ensures)) (e .reach-last .ensures))
 
-mul-s : tie.Need-mul-s Inv-loop μ-loop
-mul-s c = let w = c .before .before .before .before .before .before .before .before .before .pre .0 in omega (arith, c .before .loop .inv w .here .inside, w .input .pattern .few)
+mul-widen : tie.Need-mul-widen Inv-loop μ-loop
+mul-widen c = let b = entry (c .before) in let s = small b in let i = table c (run b) .here .inside in omega arith
 
-element-copy-out-s : tie.Need-element-copy-out-s Inv-loop μ-loop
-element-copy-out-s c = let w = c .before .before .before .before .before .before .before .before .before .pre .0 in omega (arith, c .before .loop .inv w .here .inside, w .input .pattern .few)
+shared-slice-read-widen : tie.Need-shared-slice-read-widen Inv-loop μ-loop
+shared-slice-read-widen c = let i = c .before in let b = entry (i .before) in let s = small b in let h = table i (run b) .here .inside in omega arith
 
 widen-requires : tie.Need-widen-requires Inv-loop μ-loop
 widen-requires c κs = search needs
+
+mul-widen-2 : tie.Need-mul-widen-2 Inv-loop μ-loop
+mul-widen-2 c = let i = c .before .before in let b = entry (i .before) in let s = small b in let h = table i (run b) .here .inside in omega arith
+
+shared-slice-read-widen-2 : tie.Need-shared-slice-read-widen-2 Inv-loop μ-loop
+shared-slice-read-widen-2 c = let i = c .before .before .before in let b = entry (i .before) in let s = small b in let h = table i (run b) .here .inside in omega arith
 
 widen-requires-2 : tie.Need-widen-requires-2 Inv-loop μ-loop
 widen-requires-2 c κs = search needs
@@ -59,43 +127,49 @@ sub-j-2 : tie.Need-sub-j-2 Inv-loop μ-loop
 sub-j-2 c = search needs
 
 sub-r : tie.Need-sub-r Inv-loop μ-loop
-sub-r c = let w = c .before .before .before .before .before .before .before .before .before .before .before .before .pre .0 in let l = (c .before .before .before .before .loop) in let inv = l .inv w in let pos = c .before .before .before .loop-test .taken in let eh = c .widen2 .ensures .0 in let back = reach-back (inv .here) pos eh in back .0
+sub-r c = back c .0
 
 sub-r-2 : tie.Need-sub-r-2 Inv-loop μ-loop
-sub-r-2 c = let w = c .before .before .before .before .before .before .before .before .before .before .before .before .pre .0 in let l = (c .before .before .before .before .loop) in let inv = l .inv w in let pos = c .before .before .before .loop-test .taken in let eh = c .widen2 .ensures .0 in let back = reach-back (inv .here) pos eh in back .1
+sub-r-2 c = back c .1
 
-add-clip-3 : tie.Need-add-clip-3 Inv-loop μ-loop
-add-clip-3 c = let a = (c .before .before .before .before .before .before .before .before .before .before .before .before .args) in let w = c .before .before .before .before .before .before .before .before .before .before .before .before .pre .0 in let ok = w .input in let some = ok .pattern .some in let few = ok .pattern .few in let short = ok .short in let mk = w .marks in let g = c .before .before .before .before .before .before .before .before .before .before .before .before .pre .1 in let l = (c .before .before .before .before .loop) in let inv = l .inv w in let i = inv .here .inside in let pos = c .before .before .before .loop-test .taken in let eh = c .widen2 .ensures .0 in let back = reach-back (inv .here) pos eh in omega (arith, reach-bound (ok .pattern) (l .j - 1) (omega arith))
-
-add-clip-4 : tie.Need-add-clip-4 Inv-loop μ-loop
-add-clip-4 c = let a = (c .before .before .before .before .before .before .before .before .before .before .before .before .args) in let w = c .before .before .before .before .before .before .before .before .before .before .before .before .pre .0 in let ok = w .input in let some = ok .pattern .some in let few = ok .pattern .few in let short = ok .short in let mk = w .marks in let g = c .before .before .before .before .before .before .before .before .before .before .before .before .pre .1 in let l = (c .before .before .before .before .loop) in let inv = l .inv w in let i = inv .here .inside in let pos = c .before .before .before .loop-test .taken in let eh = c .widen2 .ensures .0 in let back = reach-back (inv .here) pos eh in omega (arith, reach-bound (ok .pattern) (l .j - 1) (omega arith))
+add-clip-2 : tie.Need-add-clip-2 Inv-loop μ-loop
+add-clip-2 c = let h = c .before in let b = back h in let s = small (entry (turn h .before)) in let z = near h in omega arith
 
 clip-requires-2 : tie.Need-clip-requires-2 Inv-loop μ-loop
 clip-requires-2 c κs = search needs
 
 mul-reach-on : tie.Need-mul-reach-on Inv-loop μ-loop
-mul-reach-on c = let w = c .before .before .before .before .before .before .before .before .before .before .before .before .before .pre .0 in omega (arith, c .before .before .before .before .before .loop .inv w .here .inside, w .input .pattern .few, w .inside, w .input .short)
+mul-reach-on c = let h = high-at c in let s = small (entry (turn h .before)) in let i = inside h (run (entry (turn h .before))) in omega arith
 
 add-reach-on : tie.Need-add-reach-on Inv-loop μ-loop
-add-reach-on c = let w = c .before .before .before .before .before .before .before .before .before .before .before .before .before .pre .0 in omega (arith, c .before .before .before .before .before .loop .inv w .here .inside, w .input .pattern .few, w .inside, w .input .short)
+add-reach-on c = let h = high-at c in let s = small (entry (turn h .before)) in let i = inside h (run (entry (turn h .before))) in omega arith
 
 mul-reach-on-2 : tie.Need-mul-reach-on-2 Inv-loop μ-loop
-mul-reach-on-2 c = let w = c .before .before .before .before .before .before .before .before .before .before .before .before .before .pre .0 in omega (arith, c .before .before .before .before .before .loop .inv w .here .inside, w .input .pattern .few, w .inside, w .input .short)
+mul-reach-on-2 c = let h = high-at c in let s = small (entry (turn h .before)) in let i = inside h (run (entry (turn h .before))) in omega arith
 
 reach-on-requires : tie.Need-reach-on-requires Inv-loop μ-loop
-reach-on-requires c κs = let a = (c .before .before .before .before .before .before .before .before .before .before .before .before .before .before .args) in let w = c .before .before .before .before .before .before .before .before .before .before .before .before .before .before .pre .0 in let ok = w .input in let some = ok .pattern .some in let few = ok .pattern .few in let short = ok .short in let mk = w .marks in let g = c .before .before .before .before .before .before .before .before .before .before .before .before .before .before .pre .1 in let l = (c .before .before .before .before .before .before .loop) in let inv = l .inv w in let i = inv .here .inside in let pos = c .before .before .before .before .before .loop-test .taken in let eh = c .before .before .widen2 .ensures .0 in let back = reach-back (inv .here) pos eh in let ea = c .before .clip2 .ensures in let less = size-less (inv .here) pos eh ea in let el = c .before .before .before .widen .ensures .0 in let gap = gaps (ok .pattern) (l .j) i in let long = c .before .before .before .before .before .before .before .before .before .reach-last .kept .1 .1 .1 .1 .1 .1 .0 in let sz = mk .size in let kept = inv .long in (omega arith, omega arith, omega arith, omega arith, omega arith, omega arith)
+reach-on-requires c κs = let k = c .before in let h = high-at k in let b = entry (turn h .before) in let g = run b in let s = small b in let i = inside h g in
+    let less = size-less (table (turn h) g .here) (turn h .loop-test .taken) (high h g) (k .clip2 .ensures) in
+    let gap = run-gap g i (low-at h .widen .ensures .0) (h .widen2 .ensures .0) in
+    let pos = turn h .loop-test .taken in
+    (omega arith, omega arith, gap .1, omega arith, omega arith, omega (arith, long (turn h)))
 
 loop-less : tie.Need-loop-less Inv-loop μ-loop
 loop-less c = search needs
 
 loop-again : tie.Need-loop-again Inv-loop μ-loop
-loop-again c = λ w. let a = (c .before .before .before .before .before .before .before .before .before .before .before .before .before .before .before .before .before .args) in let ok = w .input in let some = ok .pattern .some in let few = ok .pattern .few in let short = ok .short in let mk = w .marks in let g = c .before .before .before .before .before .before .before .before .before .before .before .before .before .before .before .before .before .pre .1 in let l = (c .before .before .before .before .before .before .before .before .before .loop) in let inv = l .inv w in let i = inv .here .inside in let pos = c .before .before .before .before .before .before .before .before .loop-test .taken in let eh = c .before .before .before .before .before .widen2 .ensures .0 in let back = reach-back (inv .here) pos eh in let ea = c .before .before .before .before .clip2 .ensures in let less = size-less (inv .here) pos eh ea in let el = c .before .before .before .before .before .before .widen .ensures .0 in let gap = gaps (ok .pattern) (l .j) i in let long = c .before .before .before .before .before .before .before .before .before .before .before .before .reach-last .kept .1 .1 .1 .1 .1 .1 .0 in tabling-more (a .t1) (w .view) (a .first) (a .n) (a .more) (a .from) mk (w .inside) (omega arith) inv pos el eh (omega arith) ea (c .before .before .reach-on .kept .1 .1 .1 .1 .1 .1 .1 .0) (c .before .before .reach-on .ensures)
+loop-again c = let p = on-at c in let k = p .before .before in let h = high-at k in (
+  p .reach-on .kept .1 .1 .1 .1 .1 .1 .1 .0 ∙ turn h .before .loop .inv .0,
+  λ g. let s = small (entry (turn h .before)) in
+      let gap = run-gap g (inside h g) (low-at h .widen .ensures .0) (h .widen2 .ensures .0) in
+      tabling-more (g .plan .handed .table) (g .inside) (omega arith) (table (turn h) g) (turn h .loop-test .taken) (low h g) (high h g) (gap .1) (k .clip2 .ensures) (p .reach-on .ensures),
+)
 
 same-length : tie.Need-same-length Inv-loop μ-loop
-same-length c = (c .before .loop .inv (c .before .before .before .before .before .before .before .before .before .pre .0) .long) ∙ (c .before .before .before .before .reach-last .kept .1 .1 .1 .1 .1 .1 .0)
+same-length c = c .before .loop .inv .0 ∙ last-at (c .before .before) .reach-last .kept .1 .1 .1 .1 .1 .1 .0
 
 returns : tie.Need-returns Inv-loop μ-loop
-returns c = λ w. let a = (c .before .before .before .before .before .before .before .before .before .args) in tabled (a .t1) (w .view) (a .first) (a .n) (a .more) (a .from) (c .before .loop .inv w) (c .loop-test .left)
+returns c = λ g. tabled (c .before .loop .inv .1 g) (c .loop-test .left)
 
 pub reach-all-spec : {M : Type 1} → statement M
 reach-all-spec =
@@ -105,22 +179,22 @@ reach-all-spec =
     μ-loop
     sub-j
     add-clip
-    add-clip-2
     clip-requires
     mul-reach-last
     add-reach-last
     mul-reach-last-2
     reach-last-requires
     loop-holds
-    mul-s
-    element-copy-out-s
+    mul-widen
+    shared-slice-read-widen
     widen-requires
+    mul-widen-2
+    shared-slice-read-widen-2
     widen-requires-2
     sub-j-2
     sub-r
     sub-r-2
-    add-clip-3
-    add-clip-4
+    add-clip-2
     clip-requires-2
     mul-reach-on
     add-reach-on

@@ -1,6 +1,6 @@
 -- `counting::reach::reach_last` meets its contract. The invariant: the entries are done from the index i on, and q is the entry there.
 use native.Mathlib.Omega.{arith}
-use Rattle.counting.specs.Tables.{ends}
+use Rattle.counting.specs.Steps.Tables.{ends}
 use Rattle.counting.proofs.Reaching.{Reaching, reach-begin, reach-here, reach-later, reached}
 use lib.ListN.{length-set}
 use borrow.Author.Needs.{needs}
@@ -8,10 +8,10 @@ use Rattle.counting.proofs.reach.reach_last.Statement.{statement}
 use Rattle.counting.proofs.reach.reach_last.Tie as tie
 
 abbrev Inv-loop : tie.InvT-loop
-Inv-loop marks at first n from base next₀ q₀ i₀ next q i = Reaching (ends marks at first from) n base next₀ i q next
+Inv-loop fits at first n from base next₀ q₀ i₀ next q i = Reaching (ends fits at first from) n base next₀ i q next
 
 abbrev μ-loop : tie.MeasureT-loop
-μ-loop marks at first n from base next₀ q₀ i₀ next q i = i
+μ-loop fits at first n from base next₀ q₀ i₀ next q i = i
 
 loop-holds : tie.Need-loop-holds Inv-loop μ-loop
 loop-holds c = reach-begin (omega arith)

@@ -1,6 +1,6 @@
 -- `counting::reach::reach_on` meets its contract. The invariant: the entries are done from i on, and the next slot's are as they were.
 use native.Mathlib.Omega.{arith}
-use Rattle.counting.specs.Tables.{leads}
+use Rattle.counting.specs.Steps.Tables.{leads}
 use lib.ListN.{length-set}
 use Rattle.counting.proofs.Reaching.{Reaching, reach-begin, reach-here, reach-later, reached, lead}
 use borrow.Author.Needs.{needs}
@@ -8,10 +8,10 @@ use Rattle.counting.proofs.reach.reach_on.Statement.{statement}
 use Rattle.counting.proofs.reach.reach_on.Tie as tie
 
 abbrev Inv-loop : tie.InvT-loop
-Inv-loop marks at low high n m base next₀ q₀ i₀ next q i = Reaching (leads marks at low high m base next₀) n base next₀ i q next
+Inv-loop fits at low high n m base next₀ q₀ i₀ next q i = Reaching (leads fits at low high m base next₀) n base next₀ i q next
 
 abbrev μ-loop : tie.MeasureT-loop
-μ-loop marks at low high n m base next₀ q₀ i₀ next q i = i
+μ-loop fits at low high n m base next₀ q₀ i₀ next q i = i
 
 loop-holds : tie.Need-loop-holds Inv-loop μ-loop
 loop-holds c = reach-begin (omega arith)
@@ -74,7 +74,7 @@ loop-less : tie.Need-loop-less Inv-loop μ-loop
 loop-less c = search needs
 
 loop-again : tie.Need-loop-again Inv-loop μ-loop
-loop-again c = let a = (c .before .before .before .before .before .before .before .before .before .before .args) in reach-here (c .before .before .before .before .before .before .before .loop .inv) (c .before .before .before .before .before .before .loop-test .taken) (omega (arith, c .before .before .before .before .before .before .before .before .before .before .pre .3, c .before .before .before .before .before .before .before .before .before .before .pre .5)) (lead (a .marks .now) (a .at) (a .low) (a .high) (a .m) (c .before .before .before .before .before .before .before .loop .inv) (c .before .before .before .before .before .before .before .before .before .before .pre .3) (c .before .holds .ensures) (c .before .before .widen .ensures .0) (c .before .before .before .before .before .clip .ensures)) (c .if1 .taken)
+loop-again c = let a = (c .before .before .before .before .before .before .before .before .before .before .args) in reach-here (c .before .before .before .before .before .before .before .loop .inv) (c .before .before .before .before .before .before .loop-test .taken) (omega (arith, c .before .before .before .before .before .before .before .before .before .before .pre .3, c .before .before .before .before .before .before .before .before .before .before .pre .5)) (lead (a .fits .now) (a .at) (a .low) (a .high) (a .m) (c .before .before .before .before .before .before .before .loop .inv) (c .before .before .before .before .before .before .before .before .before .before .pre .3) (c .before .holds .ensures) (c .before .before .widen .ensures .0) (c .before .before .before .before .before .clip .ensures)) (c .if1 .taken)
 
 mul-next-2 : tie.Need-mul-next-2 Inv-loop μ-loop
 mul-next-2 c = omega (arith, c .before .before .before .before .before .before .before .loop .inv .inside, c .before .before .before .before .before .before .before .loop .inv .long)
@@ -86,7 +86,7 @@ loop-less-2 : tie.Need-loop-less-2 Inv-loop μ-loop
 loop-less-2 c = search needs
 
 loop-again-2 : tie.Need-loop-again-2 Inv-loop μ-loop
-loop-again-2 c = let a = (c .before .before .before .before .before .before .before .before .before .before .args) in reach-later (c .before .before .before .before .before .before .before .loop .inv) (c .before .before .before .before .before .before .loop-test .taken) (omega (arith, c .before .before .before .before .before .before .before .before .before .before .pre .3, c .before .before .before .before .before .before .before .before .before .before .pre .5)) (lead (a .marks .now) (a .at) (a .low) (a .high) (a .m) (c .before .before .before .before .before .before .before .loop .inv) (c .before .before .before .before .before .before .before .before .before .before .pre .3) (c .before .holds .ensures) (c .before .before .widen .ensures .0) (c .before .before .before .before .before .clip .ensures)) (c .if1 .left)
+loop-again-2 c = let a = (c .before .before .before .before .before .before .before .before .before .before .args) in reach-later (c .before .before .before .before .before .before .before .loop .inv) (c .before .before .before .before .before .before .loop-test .taken) (omega (arith, c .before .before .before .before .before .before .before .before .before .before .pre .3, c .before .before .before .before .before .before .before .before .before .before .pre .5)) (lead (a .fits .now) (a .at) (a .low) (a .high) (a .m) (c .before .before .before .before .before .before .before .loop .inv) (c .before .before .before .before .before .before .before .before .before .before .pre .3) (c .before .holds .ensures) (c .before .before .widen .ensures .0) (c .before .before .before .before .before .clip .ensures)) (c .if1 .left)
 
 add-d-2 : tie.Need-add-d-2 Inv-loop μ-loop
 add-d-2 c = omega (arith, c .before .loop .inv .long)

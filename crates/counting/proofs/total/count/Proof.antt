@@ -1,55 +1,55 @@
--- `counting::total::count` meets its contract: either way of counting does.
+-- `counting::total::count` meets its contract: the sum of the column is the number of all occurrences.
+use Prim.Native.Nat.{ℕ}
 use native.Mathlib.Omega.{arith}
 use mathlib.Core.Path.{sym, _∙_}
-use Rattle.matching.specs.Laws.Cover.{width}
-use Rattle.matching.specs.Occurrence.{plain}
-use Rattle.counting.proofs.Passes.{free-bounds}
+use lib.ListN.{length-replicate}
+use Rattle.counting.proofs.Columns.{room-new, column-total, column-fits}
+use Rattle.counting.proofs.Counting.{room-less}
 use borrow.Author.Needs.{needs}
 use Rattle.counting.proofs.total.count.Statement.{statement}
 use Rattle.counting.proofs.total.count.Tie as tie
 
-farthest-requires : tie.Need-farthest-requires
-farthest-requires c κs = search needs
+-- ---- the places of the body, from each back to one before
 
-unbound-requires : tie.Need-unbound-requires
-unbound-requires c κs = search needs
+abbrev start : tie.After-lo → tie.Start
+start c = c .before .before .before
 
-whole-requires : tie.Need-whole-requires
-whole-requires c κs = let b = free-bounds (c .before .before .before .before .before .args .f) (plain (c .before .before .before .before .before .args .f) (c .before .before .before .before .before .args .t .now)) (sym (c .before .unbound .ensures) ∙ c .if1 .taken) in (c .before .before .before .before .before .pre .0, (c .before .before .before .before .before .pre .1, (b .0, b .1, c .before .before .farthest .ensures .0)))
+abbrev column-at : tie.After-lo3 → tie.After-column
+column-at c = c .before .before .before .before
+
+abbrev entry : tie.After-lo3 → tie.Start
+entry c = start (column-at c .before)
+
+slice-aggregate-column : tie.Need-slice-aggregate-column
+slice-aggregate-column c = sym (length-replicate {A = ℕ} 20001 0)
+
+slice-aggregate-column-2 : tie.Need-slice-aggregate-column-2
+slice-aggregate-column-2 c = sym (length-replicate {A = ℕ} 20001 0)
+
+column-requires : tie.Need-column-requires
+column-requires c κs = (start c .pre, room-new 20001 _ (omega (arith, start c .pre .input .short)))
+
+slice-aggregate-sum : tie.Need-slice-aggregate-sum
+slice-aggregate-sum c = search needs
+
+slice-aggregate-sum-2 : tie.Need-slice-aggregate-sum-2
+slice-aggregate-sum-2 c = search needs
+
+sum-requires : tie.Need-sum-requires
+sum-requires c κs = let k = entry c .pre in let h = k .input .short in let kept = column-at c .column .kept .1 .1 .1 in
+    (room-less (room-new 20001 (entry c .args .n) (omega arith)) (omega arith) (kept .0) (kept .1 .0), column-fits (k .input) (column-at c .column .ensures k))
 
 returns : tie.Need-returns
-returns c = search needs
-
-widen-requires : tie.Need-widen-requires
-widen-requires c κs = search needs
-
-add-clip : tie.Need-add-clip
-add-clip c = search needs
-
-clip-requires : tie.Need-clip-requires
-clip-requires c κs = search needs
-
-each-requires : tie.Need-each-requires
-unfolding width
-each-requires c κs = let far = c .before .before .before .before .farthest .ensures in
-    let most = c .before .widen .ensures in
-    let e = c .clip .ensures in
-    let ok = c .before .before .before .before .before .before .before .pre .0 in
-    (ok, (c .before .before .before .before .before .before .before .pre .1, (far .0, omega (arith, e, far .0, most .0), omega (arith, e, far .0, most .0, ok .pattern .least, ok .pattern .ordered), omega (arith, e, far .1))))
-
-returns-2 : tie.Need-returns-2
-returns-2 c = search needs
+returns c = λ k. c .sum .ensures ∙ column-total (k .input) (column-at (c .before) .column .ensures k)
 
 pub count-spec : {M : Type 1} → statement M
 count-spec =
     tie.close
     (tie.spec
-    farthest-requires
-    unbound-requires
-    whole-requires
-    returns
-    widen-requires
-    add-clip
-    clip-requires
-    each-requires
-    returns-2)
+    slice-aggregate-column
+    slice-aggregate-column-2
+    column-requires
+    slice-aggregate-sum
+    slice-aggregate-sum-2
+    sum-requires
+    returns)

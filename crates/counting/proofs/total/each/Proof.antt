@@ -1,35 +1,44 @@
--- `counting::total::each` meets its contract. The invariant: the sum is the number of the occurrences with a first place passed.
-use Rattle.matching.specs.Laws.Sums.{total}
-use Rattle.matching.specs.Laws.Cover.{starting}
-use Rattle.matching.specs.Occurrence.{plain}
-use Rattle.counting.specs.Numbers.{val, value}
-use Rattle.counting.proofs.Passes.{start-take, start-skip, add-sum, add-fits, skip-sum, all-sum, window}
-use Prim.Native.Nat.{ℕ, _-_, _≤_}
-use mathlib.Core.Path.{_≡_, refl, _∙_}
+-- `counting::total::each` meets its contract. The invariant: the column is done for the places passed.
+use Prim.Native.Nat.{_-_, _≤_}
 use native.Mathlib.Omega.{arith}
-use lib.ListN.{length, length-replicate}
+use mathlib.Core.Path.{_≡_, refl, _∙_}
+use lib.ListN.{length}
+use Rattle.matching.specs.Laws.Cover.{width}
+use Rattle.counting.specs.Steps.Plans.{Plan, planPattern, planView}
+use Rattle.counting.proofs.Columns.{startRun, Filling, filling-begin, filling-more, filling-skip, column-each}
 use borrow.Author.Needs.{needs}
 use Rattle.counting.proofs.total.each.Statement.{statement}
 use Rattle.counting.proofs.total.each.Tie as tie
 
 abbrev Inv-loop : tie.InvT-loop
-Inv-loop f t marks reach w hi₀ lo₀ n least sum₀ i₀ hi lo sum i = (length hi ≡ 1000) × (length lo ≡ 1000) × (i ≤ length t) × (value sum ≡ total i (starting f (plain f t)) 1)
+Inv-loop low high m reach fits n least span hi₀ lo₀ x₀ y₀ i₀ hi lo x y i = (length x ≡ 1000) × (length y ≡ 1000) × (i ≤ n) × (length hi ≡ length hi₀) × (length lo ≡ length lo₀)
+    × ((g : Plan m n reach low high fits) → least ≡ g .least → span ≡ width (planPattern g) → Filling (planPattern g) (planView g) hi₀ lo₀ i hi lo)
 
 abbrev μ-loop : tie.MeasureT-loop
-μ-loop f t marks reach w hi₀ lo₀ n least sum₀ i₀ hi lo sum i = n - i
+μ-loop low high m reach fits n least span hi₀ lo₀ x₀ y₀ i₀ hi lo x y i = n - i
 
-widen-requires : tie.Need-widen-requires Inv-loop μ-loop
-widen-requires c κs = search needs
+-- ---- the places of the body, from each back to one before
+
+abbrev start : tie.At-loop Inv-loop μ-loop → tie.Start Inv-loop μ-loop
+start c = c .before .before .before .before .before .before
+
+abbrev turn : tie.After-shared-slice-known4 Inv-loop μ-loop → tie.At-loop Inv-loop μ-loop
+turn c = c .before .before
+
+abbrev clip-at : tie.After-y Inv-loop μ-loop → tie.After-clip Inv-loop μ-loop
+clip-at c = c .before .before
+
+abbrev loop-of : tie.After-clip Inv-loop μ-loop → tie.At-loop Inv-loop μ-loop
+loop-of c = turn (c .before .before)
+
+abbrev ways-at : tie.After-y2 Inv-loop μ-loop → tie.After-ways Inv-loop μ-loop
+ways-at c = c .before .before
 
 loop-holds : tie.Need-loop-holds Inv-loop μ-loop
-unfolding total
-loop-holds c = (length-replicate {A = ℕ} 1000 0, length-replicate {A = ℕ} 1000 0, omega arith, refl)
+loop-holds c = (refl, refl, search needs, refl, refl, λ g el es. filling-begin)
 
 shared-slice-read-if1 : tie.Need-shared-slice-read-if1 Inv-loop μ-loop
-shared-slice-read-if1 c = let b = c .before .before .before .before .before .before in
-    let ok = b .pre .0 in
-    let n = c .before .loop-test .taken in
-    omega (arith, n, ok .short, b .pre .1 .0 .size)
+shared-slice-read-if1 c = let g = start (turn c) .pre .0 in omega (arith, g .handed .table .size, g .handed .input .short)
 
 sub-clip : tie.Need-sub-clip Inv-loop μ-loop
 sub-clip c = search needs
@@ -37,8 +46,8 @@ sub-clip c = search needs
 clip-requires : tie.Need-clip-requires Inv-loop μ-loop
 clip-requires c κs = search needs
 
-add-ways : tie.Need-add-ways Inv-loop μ-loop
-add-ways c = search needs
+add-t20 : tie.Need-add-t20 Inv-loop μ-loop
+add-t20 c = search needs
 
 slice-aggregate-ways : tie.Need-slice-aggregate-ways Inv-loop μ-loop
 slice-aggregate-ways c = search needs
@@ -47,29 +56,26 @@ slice-aggregate-ways-2 : tie.Need-slice-aggregate-ways-2 Inv-loop μ-loop
 slice-aggregate-ways-2 c = search needs
 
 ways-requires : tie.Need-ways-requires Inv-loop μ-loop
-ways-requires c κs = let b = c .before .before .before .before .before .before .before .before .before .before in
-    let l = c .before .before .before .before .before .before .loop in
-    let ok = b .pre .0 in
-    let g = b .pre .1 .1 in
-    let n = c .before .before .before .before .before .loop-test .taken in
-    let m = c .before .before .clip .ensures in
-    (window ok (b .pre .1 .0) (omega (arith, m, n)), (record { high = omega (arith, l .inv .0, m, g .3); low = omega (arith, l .inv .1, m, g .3) }, (omega arith, g .0)))
+ways-requires c κs = let k = clip-at c in let l = loop-of k in let b = start l in let z = b .pre .1 .1 in let i = k .before .before .before .loop-test .taken in
+    (startRun (b .pre .0) i (z .1) (k .clip .ensures), record { high = omega (arith, k .clip .ensures, l .loop .inv .0, z .2); low = omega (arith, k .clip .ensures, l .loop .inv .1, z .2) })
 
-array-read-t25 : tie.Need-array-read-t25 Inv-loop μ-loop
-array-read-t25 c = search needs
+array-read-hi : tie.Need-array-read-hi Inv-loop μ-loop
+array-read-hi c = search needs
 
-array-read-t28 : tie.Need-array-read-t28 Inv-loop μ-loop
-array-read-t28 c = search needs
+mul-hi : tie.Need-mul-hi Inv-loop μ-loop
+mul-hi c = search needs
 
-add-requires : tie.Need-add-requires Inv-loop μ-loop
-unfolding val
-add-requires c κs = let b = c .before .before .before .before .before .before .before .before .before .before .before .before .before in
-    let l = c .before .before .before .before .before .before .before .before .before .loop in
-    let ok = b .pre .0 in
-    let g = b .pre .1 .1 in
-    let n = c .before .before .before .before .before .before .before .before .loop-test .taken in
-    let x = start-take ok (l .i) n (g .1) (g .2) (c .before .before .before .before .before .clip .ensures) (omega (arith, c .before .before .before .before .before .before .before .before .before .before .widen .ensures .0)) (c .before .before .ways .ensures (window ok (b .pre .1 .0) (omega (arith, c .before .before .before .before .before .clip .ensures, n)))) in
-    add-fits ok (l .i) n (l .inv .3) x
+slice-write-hi : tie.Need-slice-write-hi Inv-loop μ-loop
+slice-write-hi c = search needs
+
+array-read-lo : tie.Need-array-read-lo Inv-loop μ-loop
+array-read-lo c = search needs
+
+mul-lo : tie.Need-mul-lo Inv-loop μ-loop
+mul-lo c = search needs
+
+slice-write-lo : tie.Need-slice-write-lo Inv-loop μ-loop
+slice-write-lo c = search needs
 
 add-i : tie.Need-add-i Inv-loop μ-loop
 add-i c = search needs
@@ -78,15 +84,27 @@ loop-less : tie.Need-loop-less Inv-loop μ-loop
 loop-less c = search needs
 
 loop-again : tie.Need-loop-again Inv-loop μ-loop
-unfolding val
-loop-again c = let b = c .before .before .before .before .before .before .before .before .before .before .before .before .before .before in
-    let l = c .before .before .before .before .before .before .before .before .before .before .loop in
-    let ok = b .pre .0 in
-    let g = b .pre .1 .1 in
-    let n = c .before .before .before .before .before .before .before .before .before .loop-test .taken in
-    let x = start-take ok (l .i) n (g .1) (g .2) (c .before .before .before .before .before .before .clip .ensures) (omega (arith, c .before .before .before .before .before .before .before .before .before .before .before .widen .ensures .0)) (c .before .before .before .ways .ensures (window ok (b .pre .1 .0) (omega (arith, c .before .before .before .before .before .before .clip .ensures, n)))) in
-    let kept = c .before .before .before .ways .kept in
-    (kept .1 .1 .1 .1 .1 .1 .1 .0 ∙ l .inv .0, kept .1 .1 .1 .1 .1 .1 .1 .1 .0 ∙ l .inv .1, omega (arith, n), c .add .ensures ∙ add-sum ok (l .i) n (l .inv .3) x)
+loop-again c = let u = ways-at c in let k = clip-at (u .before) in let l = loop-of k in let b = start l in let z = b .pre .1 .1 in let i = k .before .before .before .loop-test .taken in
+    let v = l .loop .inv in (
+      u .ways .kept .1 .1 .1 .1 .1 .1 .0 ∙ v .0,
+      u .ways .kept .1 .1 .1 .1 .1 .1 .1 .0 ∙ v .1,
+      search needs,
+      search needs,
+      search needs,
+      λ g el es. filling-more (v .5 g el es) (g .handed .input) (b .pre .1 .0) i es (z .1) (k .clip .ensures) (omega (arith, el)) (u .ways .ensures (startRun g i (z .1) (k .clip .ensures))),
+    )
+
+mul-hi-2 : tie.Need-mul-hi-2 Inv-loop μ-loop
+mul-hi-2 c = search needs
+
+slice-write-hi-2 : tie.Need-slice-write-hi-2 Inv-loop μ-loop
+slice-write-hi-2 c = search needs
+
+mul-lo-2 : tie.Need-mul-lo-2 Inv-loop μ-loop
+mul-lo-2 c = search needs
+
+slice-write-lo-2 : tie.Need-slice-write-lo-2 Inv-loop μ-loop
+slice-write-lo-2 c = search needs
 
 add-i-2 : tie.Need-add-i-2 Inv-loop μ-loop
 add-i-2 c = search needs
@@ -95,14 +113,17 @@ loop-less-2 : tie.Need-loop-less-2 Inv-loop μ-loop
 loop-less-2 c = search needs
 
 loop-again-2 : tie.Need-loop-again-2 Inv-loop μ-loop
-loop-again-2 c = let b = c .before .before .before .before .before .before .before in
-    let l = c .before .before .before .loop in
-    let ok = b .pre .0 in
-    let n = c .before .before .loop-test .taken in
-    (l .inv .0, l .inv .1, omega (arith, n), skip-sum ok (l .i) (l .inv .3) (start-skip ok (b .pre .1 .0) (l .i) n (c .if1 .left)))
+loop-again-2 c = let l = turn (c .before) in let v = l .loop .inv in let i = c .before .before .loop-test .taken in
+    (v .0, v .1, search needs, search needs, search needs, λ g el es. filling-skip (v .5 g el es) (g .handed .input) (start l .pre .1 .0) i (g .handed .table) (c .if1 .left))
+
+same-length : tie.Need-same-length Inv-loop μ-loop
+same-length c = c .before .loop .inv .3
+
+same-length-2 : tie.Need-same-length-2 Inv-loop μ-loop
+same-length-2 c = c .before .loop .inv .4
 
 returns : tie.Need-returns Inv-loop μ-loop
-returns c = all-sum (c .before .before .before .before .before .pre .0) (c .before .loop .inv .3) (c .before .loop .inv .2) (c .loop-test .left)
+returns c = λ g el es. column-each (c .before .loop .inv .5 g el es) (c .loop-test .left)
 
 pub each-spec : {M : Type 1} → statement M
 each-spec =
@@ -110,22 +131,30 @@ each-spec =
     (tie.spec
     Inv-loop
     μ-loop
-    widen-requires
     loop-holds
     shared-slice-read-if1
     sub-clip
     clip-requires
-    add-ways
+    add-t20
     slice-aggregate-ways
     slice-aggregate-ways-2
     ways-requires
-    array-read-t25
-    array-read-t28
-    add-requires
+    array-read-hi
+    mul-hi
+    slice-write-hi
+    array-read-lo
+    mul-lo
+    slice-write-lo
     add-i
     loop-less
     loop-again
+    mul-hi-2
+    slice-write-hi-2
+    mul-lo-2
+    slice-write-lo-2
     add-i-2
     loop-less-2
     loop-again-2
+    same-length
+    same-length-2
     returns)

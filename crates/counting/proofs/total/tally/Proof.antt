@@ -1,14 +1,43 @@
 -- `counting::total::tally` meets its contract: the number is over 2 ^ 64 - 1 exactly where the high half is not 0.
 use Prim.Native.Nat.{ℕ}
-use lib.ListN.{length-replicate}
-use mathlib.Core.Path.{sym, _∙_}
+use mathlib.Core.Path.{_≡_, sym, _∙_}
+use lib.ListN.{length, length-replicate}
+use Rattle.pattern.specs.Tests.{inputVerdict}
+use Rattle.pattern.specs.declared.refusal.Verdict.the-variants.{Accepted}
 use Rattle.matching.specs.Occurrence.{plain}
+use Rattle.counting.specs.Inputs.{Input}
 use Rattle.counting.specs.Laws.Inputs.{passed}
-use Rattle.counting.proofs.Passes.{marks-new}
+use Rattle.counting.specs.Steps.Plans.{Known}
+use Rattle.counting.proofs.Columns.{long-new, known}
 use Rattle.counting.proofs.Answers.{tally-over, tally-fine}
 use borrow.Author.Needs.{needs}
 use Rattle.counting.proofs.total.tally.Statement.{statement}
 use Rattle.counting.proofs.total.tally.Tie as tie
+
+-- ---- the places of the body, from each back to one before
+
+abbrev check-at : tie.After-fits2 → tie.After-check-with
+check-at c = c .before .before .before
+
+abbrev start : tie.After-fits2 → tie.Start
+start c = check-at c .before .before
+
+abbrev table-at : tie.After-fits4 → tie.After-tabulate
+table-at c = c .before .before
+
+abbrev count-at : tie.After-struct-known → tie.After-count
+count-at c = c .before
+
+-- ---- what is known there
+
+accepted : (c : tie.After-fits2) → inputVerdict (start c .args .pattern) (length (start c .args .text .now)) ≡ Accepted
+accepted c = sym (check-at c .check-with .ensures) ∙ c .before .enum-told .given .1
+
+ok : (c : tie.After-fits2) → Input (start c .args .pattern) (plain (start c .args .pattern) (start c .args .text .now))
+ok c = passed (plain (start c .args .pattern) (start c .args .text .now)) (accepted c)
+
+abbrev table : (c : tie.After-fits4) → Known (start (table-at c .before) .args .pattern) (length (start (table-at c .before) .args .text .now)) (table-at c .tabulate .last .1 .1 .0)
+table c = known (ok (table-at c .before)) (table-at c .tabulate .ensures)
 
 check-with-requires : tie.Need-check-with-requires
 check-with-requires c κs = search needs
@@ -22,23 +51,23 @@ returns c = simp (sym (c .before .before .before .check-with .ensures) ∙ c .be
 enum-told : tie.Need-enum-told
 enum-told c = search needs
 
-slice-aggregate-mark : tie.Need-slice-aggregate-mark
-slice-aggregate-mark c = sym (length-replicate {A = ℕ} 320000 0)
+slice-aggregate-tabulate : tie.Need-slice-aggregate-tabulate
+slice-aggregate-tabulate c = sym (length-replicate {A = ℕ} 320000 0)
 
-mark-requires : tie.Need-mark-requires
-mark-requires c κs = (passed (plain (c .before .before .before .before .before .args .pattern) (c .before .before .before .before .before .args .text .now)) (sym (c .before .before .before .check-with .ensures) ∙ c .before .enum-told .given .1), marks-new 320000)
+tabulate-requires : tie.Need-tabulate-requires
+tabulate-requires c κs = (ok c, long-new 320000)
 
 slice-aggregate-count : tie.Need-slice-aggregate-count
 slice-aggregate-count c = search needs
 
 count-requires : tie.Need-count-requires
-count-requires c κs = (passed (plain (c .before .before .before .before .before .before .before .before .args .pattern) (c .before .before .before .before .before .before .before .before .args .text .now)) (sym (c .before .before .before .before .before .before .check-with .ensures) ∙ c .before .before .before .before .enum-told .given .1), c .before .before .mark .ensures)
+count-requires c κs = table c
 
 returns-2 : tie.Need-returns-2
-returns-2 c = tally-over (sym (c .before .before .before .before .before .before .before .before .before .check-with .ensures) ∙ c .before .before .before .before .before .before .before .enum-told .given .1) (c .before .before .count .result) (c .before .before .count .ensures) (c .if1 .taken)
+returns-2 c = let k = count-at (c .before) in tally-over (accepted (table-at (k .before) .before)) (k .count .result) (k .count .ensures (table (k .before))) (c .if1 .taken)
 
 returns-3 : tie.Need-returns-3
-returns-3 c = tally-fine (sym (c .before .before .before .before .before .before .before .before .before .check-with .ensures) ∙ c .before .before .before .before .before .before .before .enum-told .given .1) (c .before .before .count .result) (c .before .before .count .ensures) (c .before .before .count .ok .1 .1 .1 .0 .1) (c .if1 .left)
+returns-3 c = let k = count-at (c .before) in tally-fine (accepted (table-at (k .before) .before)) (k .count .result) (k .count .ensures (table (k .before))) (k .count .ok .1 .1 .1 .0 .1) (c .if1 .left)
 
 pub tally-spec : {M : Type 1} → statement M
 tally-spec =
@@ -48,8 +77,8 @@ tally-spec =
     enum-known-verdict
     returns
     enum-told
-    slice-aggregate-mark
-    mark-requires
+    slice-aggregate-tabulate
+    tabulate-requires
     slice-aggregate-count
     count-requires
     returns-2

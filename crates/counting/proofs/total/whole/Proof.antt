@@ -1,41 +1,28 @@
--- `counting::total::whole` meets its contract: the first sum of the first slot's row is the number of all occurrences.
-use Rattle.counting.specs.Numbers.{val}
-use Rattle.counting.proofs.Passes.{whole-tally, room-new, window}
-use native.Mathlib.Omega.{arith}
-use lib.ListN.{length}
+-- `counting::total::whole` meets its contract: the first slot's row over all places is the column.
+use Rattle.counting.proofs.Columns.{allRun, column-all}
 use borrow.Author.Needs.{needs}
 use Rattle.counting.proofs.total.whole.Statement.{statement}
 use Rattle.counting.proofs.total.whole.Tie as tie
 
-slice-aggregate-ways : tie.Need-slice-aggregate-ways
-slice-aggregate-ways c = search needs
+-- ---- the places of the body, from each back to one before
 
-slice-aggregate-ways-2 : tie.Need-slice-aggregate-ways-2
-slice-aggregate-ways-2 c = search needs
+abbrev start : tie.After-ways-arg2 → tie.Start
+start c = c .before .before .before .before .before .before .before
+
+abbrev ways-at : tie.After-slice-known4 → tie.After-ways
+ways-at c = c .before .before .before .before
 
 ways-requires : tie.Need-ways-requires
-ways-requires c κs = let b = c .before .before .before .before in
-    let s = b .pre .0 .short in
-    (window (b .pre .0) (b .pre .1 .0) (omega arith), (room-new 20001 (length (b .args .t .now)) (omega (arith, s)), (omega (arith, s), b .pre .1 .1 .2)))
+ways-requires c κs = (allRun (start c .pre .0), start c .pre .1)
 
-array-read-t15 : tie.Need-array-read-t15
-array-read-t15 c = search needs
+same-length : tie.Need-same-length
+same-length c = ways-at c .ways .kept .1 .1 .1 .1 .1 .1 .0
 
-array-read-t18 : tie.Need-array-read-t18
-array-read-t18 c = search needs
+same-length-2 : tie.Need-same-length-2
+same-length-2 c = ways-at c .ways .kept .1 .1 .1 .1 .1 .1 .1 .0
 
 returns : tie.Need-returns
-unfolding val
-returns c = let b = c .before .before .before .before .before .before .before in
-    whole-tally (b .pre .0) (b .pre .1 .1 .0) (b .pre .1 .1 .1) (c .before .before .ways .ensures (window (b .pre .0) (b .pre .1 .0) (omega arith)))
+returns c = λ g free. column-all (g .handed .input) free (ways-at c .ways .ensures (allRun g))
 
 pub whole-spec : {M : Type 1} → statement M
-whole-spec =
-    tie.close
-    (tie.spec
-    slice-aggregate-ways
-    slice-aggregate-ways-2
-    ways-requires
-    array-read-t15
-    array-read-t18
-    returns)
+whole-spec = tie.close (tie.spec ways-requires same-length same-length-2 returns)

@@ -5,7 +5,7 @@ use mathlib.Core.Path.{_≡_, refl, sym, _∙_}
 use native.Mathlib.Omega.{arith}
 use borrow.Author.Needs.{needs}
 use lib.ListN.{length, getD}
-use Rattle.counting.specs.Walks.{Walk}
+use Rattle.counting.specs.Steps.Walks.{Walk}
 use Rattle.counting.proofs.Walking.{Lent, lent-begin, lent-set, lent-back, Going, going-begin, going-small, going-room, going-on, going-leaf, child, going-more, going-end}
 use borrow.Fn.Kinds.{In}
 use borrow.Fn.PlainCycle.{Measures, is, falls, and}

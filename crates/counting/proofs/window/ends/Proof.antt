@@ -6,10 +6,10 @@ use Rattle.counting.proofs.window.ends.Statement.{statement}
 use Rattle.counting.proofs.window.ends.Tie as tie
 
 abbrev Inv-loop : tie.InvT-loop
-Inv-loop marks at first n from hi₀ lo₀ i₀ hi lo i = Ending marks at first n from hi₀ lo₀ i hi lo
+Inv-loop fits at first n from hi₀ lo₀ i₀ hi lo i = Ending fits at first n from hi₀ lo₀ i hi lo
 
 abbrev μ-loop : tie.MeasureT-loop
-μ-loop marks at first n from hi₀ lo₀ i₀ hi lo i = n - i
+μ-loop fits at first n from hi₀ lo₀ i₀ hi lo i = n - i
 
 loop-holds : tie.Need-loop-holds Inv-loop μ-loop
 loop-holds c = end-begin

@@ -7,10 +7,10 @@ use Rattle.counting.proofs.window.spread.Statement.{statement}
 use Rattle.counting.proofs.window.spread.Tie as tie
 
 abbrev Inv-loop : tie.InvT-loop
-Inv-loop marks at low high n m hi₀ lo₀ i₀ hi lo i = Spreading marks at low high n m hi₀ lo₀ i hi lo
+Inv-loop fits at low high n m hi₀ lo₀ i₀ hi lo i = Spreading fits at low high n m hi₀ lo₀ i hi lo
 
 abbrev μ-loop : tie.MeasureT-loop
-μ-loop marks at low high n m hi₀ lo₀ i₀ hi lo i = n - i
+μ-loop fits at low high n m hi₀ lo₀ i₀ hi lo i = n - i
 
 loop-holds : tie.Need-loop-holds Inv-loop μ-loop
 loop-holds c = spread-begin
@@ -121,7 +121,7 @@ loop-again-2 c = let b = c .before .before .before .before .before .before .befo
     let x = c .before .before .loop-test .taken in
     let g = b .1 .1 in
     let a = c .before .before .before .before .before .before .before .args in
-    spread-more l x (g .3) (b .0) 0 0 (spread-skip (a .marks .now) (a .at) (a .low) (a .high) (a .m) (a .hi .now) (a .lo .now) _ (c .if1 .left))
+    spread-more l x (g .3) (b .0) 0 0 (spread-skip (a .fits .now) (a .at) (a .low) (a .high) (a .m) (a .hi .now) (a .lo .now) _ (c .if1 .left))
 
 mul-hi-3 : tie.Need-mul-hi-3 Inv-loop μ-loop
 mul-hi-3 c = search needs

@@ -1,111 +1,131 @@
--- `counting::window::ways` meets its contract. The invariant: the row has the sums of the ways on from slot j.
-use Rattle.counting.specs.Steps.{Window}
-use Rattle.counting.specs.Laws.Inputs.{gaps}
-use Rattle.counting.proofs.Counting.{Counting, end-row, spread-row, row-summable, row-holds, holds-falling, counting-begin, counting-more, counted, reach-back, size-back, size-less, size-of, room-less, reach-bound}
-use Prim.Native.Nat.{_-_}
-use mathlib.Core.Path.{refl, _∙_}
+-- `counting::window::ways` meets its contract. The invariant: the row of slot j has the ways on from each of its places.
+use Prim.Native.Nat.{_-_, _≤_, _<_}
 use native.Mathlib.Omega.{arith}
+use mathlib.Core.Path.{_≡_, refl, _∙_}
+use lib.ListN.{length}
+use Rattle.pattern.specs.Patterns.{slotAt}
+use Rattle.counting.specs.Steps.Plans.{Run, runPattern, runView}
+use Rattle.counting.specs.Steps.Rows.{Room}
+use Rattle.counting.proofs.Counting.{Small, run-small, run-low, run-high, run-gap, reach-back, stage-back, size-less, stage-small, stage-begin, Counting, counting-begin, counting-room, counting-summable, counting-falling, counting-more, counted, room-less}
 use borrow.Author.Needs.{needs}
 use Rattle.counting.proofs.window.ways.Statement.{statement}
 use Rattle.counting.proofs.window.ways.Tie as tie
 
 abbrev Inv-loop : tie.InvT-loop
-Inv-loop marks first n more reach from hi₀ lo₀ f j₀ r₀ m₀ hi lo j r m = (w : Window f marks first n) → Counting f (w .view) first n more from hi₀ lo₀ j r m hi lo
+Inv-loop low high m reach fits w hi₀ lo₀ first j₀ r₀ n₀ hi lo j r n = (length hi ≡ length hi₀) × (length lo ≡ length lo₀) × ((g : Run m reach low high fits w) → Counting (runPattern g) (runView g) w j r n hi lo)
 
 abbrev μ-loop : tie.MeasureT-loop
-μ-loop marks first n more reach from hi₀ lo₀ f j₀ r₀ m₀ hi lo j r m = j
+μ-loop low high m reach fits w hi₀ lo₀ first j₀ r₀ n₀ hi lo j r n = j
+
+-- ---- the places of the body, from each back to one before
+
+abbrev start : tie.After-struct-known Inv-loop μ-loop → tie.Start Inv-loop μ-loop
+start c = c .before .before .before .before .before .before
+
+abbrev clip-at : tie.After-ends-arg2 Inv-loop μ-loop → tie.After-clip Inv-loop μ-loop
+clip-at c = c .before .before
+
+abbrev ends-at : tie.After-slice-known4 Inv-loop μ-loop → tie.After-ends Inv-loop μ-loop
+ends-at c = c .before .before .before .before
+
+abbrev entry : tie.At-loop Inv-loop μ-loop → tie.Start Inv-loop μ-loop
+entry c = start (clip-at (ends-at (c .before) .before) .before)
+
+abbrev low-at : tie.After-widen2 Inv-loop μ-loop → tie.After-widen Inv-loop μ-loop
+low-at c = c .before .before
+
+abbrev turn : tie.After-widen2 Inv-loop μ-loop → tie.In-loop Inv-loop μ-loop
+turn c = low-at c .before .before
+
+abbrev clip2-at : tie.After-sums-arg2 Inv-loop μ-loop → tie.After-clip2 Inv-loop μ-loop
+clip2-at c = c .before .before
+
+abbrev high-at : tie.After-clip2 Inv-loop μ-loop → tie.After-widen2 Inv-loop μ-loop
+high-at c = c .before .before
+
+abbrev sums-at : tie.After-slice-known6 Inv-loop μ-loop → tie.After-sums Inv-loop μ-loop
+sums-at c = c .before .before .before .before
+
+abbrev spread-at : tie.After-slice-known8 Inv-loop μ-loop → tie.After-spread Inv-loop μ-loop
+spread-at c = c .before .before .before .before
+
+-- ---- what is known there
+
+abbrev RunAt : tie.Start Inv-loop μ-loop → Type 0
+RunAt c = Run (c .args .m) (c .args .reach) (c .args .low .now) (c .args .high .now) (c .args .fits .now) (c .args .w)
+
+abbrev run : (c : tie.Start Inv-loop μ-loop) → RunAt c
+run c = c .pre .0
+
+small : (c : tie.Start Inv-loop μ-loop) → Small (c .args .m) (c .args .reach) (c .args .low .now) (c .args .high .now) (c .args .fits .now) (c .args .w)
+small c = run-small (run c)
+
+-- the last slot's row
+short : (c : tie.After-clip Inv-loop μ-loop) → c .clip .result ≤ start (c .before) .args .w .places
+short c = omega (arith, c .clip .ensures)
+
+-- the row that a turn begins with, for any pattern and view
+abbrev row : (c : tie.In-loop Inv-loop μ-loop) (g : RunAt (entry (c .before))) → Counting (runPattern g) (runView g) (entry (c .before) .args .w)
+    (c .before .loop .j) (c .before .loop .r) (c .before .loop .n) (c .before .loop .hi) (c .before .loop .lo)
+row c g = c .before .loop .inv .2 g
+
+module _ (c : tie.After-widen2 Inv-loop μ-loop) (g : RunAt (entry (turn c .before))) where
+  inside : turn c .before .loop .j < entry (turn c .before) .args .m
+  inside = row (turn c) g .here .inside
+
+  low : low-at c .widen .result ≡ slotAt (runPattern g) (turn c .before .loop .j) .low
+  low = run-low g inside (low-at c .widen .ensures .0)
+
+  high : c .widen2 .result ≡ slotAt (runPattern g) (turn c .before .loop .j) .high
+  high = run-high g inside (c .widen2 .ensures .0)
+
+-- how far slot j can be from the first, and the slot before it
+near : (c : tie.After-widen2 Inv-loop μ-loop) → turn c .before .loop .r ≤ 960
+near c = let g = run (entry (turn c .before)) in stage-small (g .plan .handed .input .pattern) (row (turn c) g .here) .0
+
+back : (c : tie.After-widen2 Inv-loop μ-loop) → (c .widen2 .result ≤ turn c .before .loop .r) × (1 ≤ turn c .before .loop .r - c .widen2 .result)
+back c = let g = run (entry (turn c .before)) in let b = reach-back (row (turn c) g .here) (turn c .loop-test .taken) (high c g) in (b .0, b .1)
 
 sub-j : tie.Need-sub-j Inv-loop μ-loop
-sub-j c = search needs
+sub-j c = let s = small (c .before .before .before .before .before) in omega arith
 
 add-clip : tie.Need-add-clip Inv-loop μ-loop
-add-clip c = let b = c .before .before .before in
-    let a = b .args in
-    let w = b .pre .0 in
-    let ok = w .input in
-    let some = ok .pattern .some in
-    let g = b .pre .1 .1 in
-    omega (arith, g .0, g .1, reach-bound (ok .pattern) (a .t1 .count - 1) (omega (arith, some)))
-
-add-clip-2 : tie.Need-add-clip-2 Inv-loop μ-loop
-add-clip-2 c = let b = c .before .before .before in
-    let a = b .args in
-    let w = b .pre .0 in
-    let ok = w .input in
-    let some = ok .pattern .some in
-    let g = b .pre .1 .1 in
-    omega (arith, g .0, g .1, reach-bound (ok .pattern) (a .t1 .count - 1) (omega (arith, some)))
+add-clip c = let s = small (start c) in omega arith
 
 clip-requires : tie.Need-clip-requires Inv-loop μ-loop
 clip-requires c κs = search needs
 
 mul-ends : tie.Need-mul-ends Inv-loop μ-loop
-mul-ends c = let b = c .before .before .before .before in
-    let w = b .pre .0 in
-    let ok = w .input in
-    omega (arith, ok .pattern .few)
+mul-ends c = let s = small (start (c .before)) in omega arith
 
 add-ends : tie.Need-add-ends Inv-loop μ-loop
-add-ends c = let b = c .before .before .before .before in
-    let w = b .pre .0 in
-    let ok = w .input in
-    let g = b .pre .1 .1 in
-    omega (arith, ok .pattern .few, w .inside, ok .short)
+add-ends c = let s = small (start (c .before)) in omega arith
 
 ends-requires : tie.Need-ends-requires Inv-loop μ-loop
-ends-requires c κs = let b = c .before .before .before .before .before .before in
-    let a = b .args in
-    let w = b .pre .0 in
-    let ok = w .input in
-    let some = ok .pattern .some in
-    let g = b .pre .1 .1 in
-    let z = size-of (a .t1) (a .n) (a .more) (a .reach) (a .t1 .count - 1) (c .before .before .clip .ensures) (g .1) in
-    (room-less (b .pre .1 .0) (z .1) refl refl, (omega (arith, z .1, w .inside, some, ok .pattern .few, ok .short, w .marks .size), omega (arith, w .inside, ok .short), omega (arith, z .1, w .inside, ok .short)))
-
-sums-requires : tie.Need-sums-requires Inv-loop μ-loop
-sums-requires c κs = let b = c .before .before .before .before .before .before .before .before .before .before .before .before .before in
-    let a = b .args in
-    let w = b .pre .0 in
-    let ok = w .input in
-    let some = ok .pattern .some in
-    let g = b .pre .1 .1 in
-    let z = size-of (a .t1) (a .n) (a .more) (a .reach) (a .t1 .count - 1) (c .before .before .before .before .before .before .before .before .before .clip .ensures) (g .1) in
-    let row = end-row (a .t1) (w .view) (a .first) (a .n) (a .more) (a .from) (w .marks) (w .inside) (omega (arith, some)) (z .0) (c .before .before .before .before .before .before .ends .ensures) in
-    let kept = c .before .before .before .before .before .before .ends .kept in
-    (room-less (b .pre .1 .0) (z .1) (kept .1 .1 .1 .1 .1 .0) (kept .1 .1 .1 .1 .1 .1 .0), row-summable (a .t1) (w .view) (a .first) (a .n) (a .more) (a .from) row ok (omega (arith, some)) (omega (arith, w .inside, ok .short)) (z .0))
+ends-requires c κs = let k = clip-at c in let b = start (k .before) in let s = small b in let n = short k in (room-less (b .pre .1) n refl refl, (omega arith, omega arith, omega arith))
 
 loop-holds : tie.Need-loop-holds Inv-loop μ-loop
-loop-holds c = λ w. let b = c .before .before .before .before .before .before .before .before .before .before .before .before .before .before .before .before .before .before in
-    let a = b .args in
-    let ok = w .input in
-    let some = ok .pattern .some in
-    let g = b .pre .1 .1 in
-    let z = size-of (a .t1) (a .n) (a .more) (a .reach) (a .t1 .count - 1) (c .before .before .before .before .before .before .before .before .before .before .before .before .before .before .clip .ensures) (g .1) in
-    let row = end-row (a .t1) (w .view) (a .first) (a .n) (a .more) (a .from) (w .marks) (w .inside) (omega (arith, some)) (z .0) (c .before .before .before .before .before .before .before .before .before .before .before .ends .ensures) in
-    let kept = c .before .before .before .before .before .before .before .before .before .before .before .ends .kept in
-    let kept2 = c .before .before .before .before .sums .kept in
-    counting-begin some (room-less (b .pre .1 .0) (omega arith) (kept2 .1 .0 ∙ kept .1 .1 .1 .1 .1 .0) (kept2 .1 .1 .0 ∙ kept .1 .1 .1 .1 .1 .1 .0)) (g .1) (z .0) (row-holds (a .t1) (w .view) (a .first) (a .n) (a .more) (a .from) row (z .0) (c .before .before .before .before .sums .ensures))
+loop-holds c = (
+  refl,
+  refl,
+  λ g. let e = ends-at c in let k = clip-at (e .before) in let h = g .plan .handed in let kept = e .ends .kept .1 .1 .1 .1 .1 in
+      counting-begin _ (h .input .pattern .some) (h .farthest) (k .clip .ensures) (h .table) (g .inside) (room-less (start (k .before) .pre .1) (omega arith) (kept .0) (kept .1 .0)) (e .ends .ensures),
+)
 
-mul-s : tie.Need-mul-s Inv-loop μ-loop
-mul-s c = let b = c .before .before .before .before .before .before .before .before .before .before .before .before .before .before .before .before .before .before .before .before in
-    let w = b .pre .0 in
-    let ok = w .input in
-    let l = c .before .loop in
-    let inv = l .inv w in
-    let i = inv .here .inside in
-    omega (arith, i, ok .pattern .few)
+mul-widen : tie.Need-mul-widen Inv-loop μ-loop
+mul-widen c = let b = entry (c .before) in let s = small b in let i = row c (run b) .here .inside in omega arith
 
-element-copy-out-s : tie.Need-element-copy-out-s Inv-loop μ-loop
-element-copy-out-s c = let b = c .before .before .before .before .before .before .before .before .before .before .before .before .before .before .before .before .before .before .before .before in
-    let w = b .pre .0 in
-    let ok = w .input in
-    let l = c .before .loop in
-    let inv = l .inv w in
-    let i = inv .here .inside in
-    omega (arith, i, ok .pattern .few)
+shared-slice-read-widen : tie.Need-shared-slice-read-widen Inv-loop μ-loop
+shared-slice-read-widen c = let b = entry (c .before .before) in let s = small b in let i = row (c .before) (run b) .here .inside in omega arith
 
 widen-requires : tie.Need-widen-requires Inv-loop μ-loop
 widen-requires c κs = search needs
+
+mul-widen-2 : tie.Need-mul-widen-2 Inv-loop μ-loop
+mul-widen-2 c = let i = c .before .before in let b = entry (i .before) in let s = small b in let h = row i (run b) .here .inside in omega arith
+
+shared-slice-read-widen-2 : tie.Need-shared-slice-read-widen-2 Inv-loop μ-loop
+shared-slice-read-widen-2 c = let i = c .before .before .before in let b = entry (i .before) in let s = small b in let h = row i (run b) .here .inside in omega arith
 
 widen-requires-2 : tie.Need-widen-requires-2 Inv-loop μ-loop
 widen-requires-2 c κs = search needs
@@ -114,139 +134,53 @@ sub-j-2 : tie.Need-sub-j-2 Inv-loop μ-loop
 sub-j-2 c = search needs
 
 sub-r : tie.Need-sub-r Inv-loop μ-loop
-sub-r c = let w = c .before .before .before .before .before .before .before .before .before .before .before .before .before .before .before .before .before .before .before .before .before .before .before .pre .0 in
-    let l = c .before .before .before .before .loop in
-    let inv = l .inv w in
-    let pos = c .before .before .before .loop-test .taken in
-    let eh = c .widen2 .ensures .0 in
-    let back = reach-back (inv .here) pos eh in
-    back .0
+sub-r c = back c .0
 
 sub-r-2 : tie.Need-sub-r-2 Inv-loop μ-loop
-sub-r-2 c = let w = c .before .before .before .before .before .before .before .before .before .before .before .before .before .before .before .before .before .before .before .before .before .before .before .pre .0 in
-    let l = c .before .before .before .before .loop in
-    let inv = l .inv w in
-    let pos = c .before .before .before .loop-test .taken in
-    let eh = c .widen2 .ensures .0 in
-    let back = reach-back (inv .here) pos eh in
-    back .1
+sub-r-2 c = back c .1
 
-add-clip-3 : tie.Need-add-clip-3 Inv-loop μ-loop
-add-clip-3 c = let b = c .before .before .before .before .before .before .before .before .before .before .before .before .before .before .before .before .before .before .before .before .before .before .before in
-    let w = b .pre .0 in
-    let ok = w .input in
-    let g = b .pre .1 .1 in
-    let l = c .before .before .before .before .loop in
-    let inv = l .inv w in
-    let i = inv .here .inside in
-    let pos = c .before .before .before .loop-test .taken in
-    let eh = c .widen2 .ensures .0 in
-    let back = reach-back (inv .here) pos eh in
-    omega (arith, g .0, back .2, reach-bound (ok .pattern) (l .j - 1) (omega (arith, i)))
-
-add-clip-4 : tie.Need-add-clip-4 Inv-loop μ-loop
-add-clip-4 c = let b = c .before .before .before .before .before .before .before .before .before .before .before .before .before .before .before .before .before .before .before .before .before .before .before in
-    let w = b .pre .0 in
-    let ok = w .input in
-    let g = b .pre .1 .1 in
-    let l = c .before .before .before .before .loop in
-    let inv = l .inv w in
-    let i = inv .here .inside in
-    let pos = c .before .before .before .loop-test .taken in
-    let eh = c .widen2 .ensures .0 in
-    let back = reach-back (inv .here) pos eh in
-    omega (arith, g .0, back .2, reach-bound (ok .pattern) (l .j - 1) (omega (arith, i)))
+add-clip-2 : tie.Need-add-clip-2 Inv-loop μ-loop
+add-clip-2 c = let h = c .before in let b = back h in let s = small (entry (turn h .before)) in let z = near h in omega arith
 
 clip-requires-2 : tie.Need-clip-requires-2 Inv-loop μ-loop
 clip-requires-2 c κs = search needs
 
+sums-requires : tie.Need-sums-requires Inv-loop μ-loop
+sums-requires c κs = let h = high-at (clip2-at c) in let b = entry (turn h .before) in let g = run b in let r = row (turn h) g in let ok = g .plan .handed .input in
+    (counting-room r ok (g .inside), counting-summable r ok (g .inside))
+
 mul-spread : tie.Need-mul-spread Inv-loop μ-loop
-mul-spread c = let b = c .before .before .before .before .before .before .before .before .before .before .before .before .before .before .before .before .before .before .before .before .before .before .before .before in
-    let w = b .pre .0 in
-    let ok = w .input in
-    let l = c .before .before .before .before .before .loop in
-    let inv = l .inv w in
-    let i = inv .here .inside in
-    omega (arith, i, ok .pattern .few)
+mul-spread c = let h = high-at (clip2-at (sums-at c .before)) in let s = small (entry (turn h .before)) in let i = inside h (run (entry (turn h .before))) in omega arith
 
 add-spread : tie.Need-add-spread Inv-loop μ-loop
-add-spread c = let b = c .before .before .before .before .before .before .before .before .before .before .before .before .before .before .before .before .before .before .before .before .before .before .before .before in
-    let w = b .pre .0 in
-    let ok = w .input in
-    let g = b .pre .1 .1 in
-    let l = c .before .before .before .before .before .loop in
-    let inv = l .inv w in
-    let i = inv .here .inside in
-    omega (arith, i, ok .pattern .few, w .inside, ok .short)
+add-spread c = let h = high-at (clip2-at (sums-at c .before)) in let s = small (entry (turn h .before)) in let i = inside h (run (entry (turn h .before))) in omega arith
 
 spread-requires : tie.Need-spread-requires Inv-loop μ-loop
-spread-requires c κs = let b = c .before .before .before .before .before .before .before .before .before .before .before .before .before .before .before .before .before .before .before .before .before .before .before .before .before .before in
-    let a = b .args in
-    let w = b .pre .0 in
-    let ok = w .input in
-    let g = b .pre .1 .1 in
-    let l = c .before .before .before .before .before .before .before .loop in
-    let inv = l .inv w in
-    let i = inv .here .inside in
-    let pos = c .before .before .before .before .before .before .loop-test .taken in
-    let eh = c .before .before .before .widen2 .ensures .0 in
-    let ea = c .before .before .clip2 .ensures in
-    let less = size-less (inv .here) pos eh ea in
-    let el = c .before .before .before .before .widen .ensures .0 in (
-      room-less (inv .room) (less .1) refl refl,
-      (
-        holds-falling (a .t1) (w .view) (a .first) (a .n) (a .more) (a .from) (inv .here .rows) (inv .holds),
-        (omega (arith, less, w .inside, i, pos, ok .pattern .few, ok .short, w .marks .size), omega (arith, el, eh, gaps (ok .pattern) (l .j) i .0), c .before .before .before .widen2 .ensures .1, less .0, omega (arith, less .1, w .inside, ok .short)),
-      ),
-    )
-
-sums-requires-2 : tie.Need-sums-requires-2 Inv-loop μ-loop
-sums-requires-2 c κs = let b = c .before .before .before .before .before .before .before .before .before .before .before .before .before .before .before .before .before .before .before .before .before .before .before .before .before .before .before .before .before .before .before .before .before in
-    let a = b .args in
-    let w = b .pre .0 in
-    let ok = w .input in
-    let g = b .pre .1 .1 in
-    let l = c .before .before .before .before .before .before .before .before .before .before .before .before .before .before .loop in
-    let inv = l .inv w in
-    let i = inv .here .inside in
-    let pos = c .before .before .before .before .before .before .before .before .before .before .before .before .before .loop-test .taken in
-    let eh = c .before .before .before .before .before .before .before .before .before .before .widen2 .ensures .0 in
-    let ea = c .before .before .before .before .before .before .before .before .before .clip2 .ensures in
-    let less = size-less (inv .here) pos eh ea in
-    let z = size-back (inv .here) pos eh ea in
-    let row = spread-row (a .t1) (w .view) (a .first) (a .n) (a .more) (a .from) {j = l .j} {j′ = l .j - 1} (w .marks) (w .inside) (omega (arith, i)) (omega (arith, pos)) (c .before .before .before .before .before .before .before .before .before .before .before .widen .ensures .0) eh (gaps (ok .pattern) (l .j) i .0) z (inv .here .rows) (less .0) (inv .holds) (c .before .before .before .before .before .before .spread .ensures) in
-    let kept = c .before .before .before .before .before .before .spread .kept in
-    (room-less (inv .room) (omega (arith, less)) (kept .1 .1 .1 .1 .1 .1 .0) (kept .1 .1 .1 .1 .1 .1 .1 .0), row-summable (a .t1) (w .view) (a .first) (a .n) (a .more) (a .from) row ok (omega (arith, i, pos)) (omega (arith, w .inside, ok .short)) z)
+spread-requires c κs = let u = sums-at (c .before .before) in let k = clip2-at (u .before) in let h = high-at k in let b = entry (turn h .before) in let g = run b in
+    let r = row (turn h) g in let ok = g .plan .handed .input in let s = small b in let i = inside h g in let pos = turn h .loop-test .taken in
+    let less = size-less (r .here) pos (high h g) (k .clip2 .ensures) in let gap = run-gap g i (low-at h .widen .ensures .0) (h .widen2 .ensures .0) in
+    (room-less (counting-room r ok (g .inside)) (omega arith) (u .sums .kept .1 .0) (u .sums .kept .1 .1 .0), (counting-falling r ok (g .inside) (u .sums .ensures), (omega arith, gap .0, omega arith, less .0, omega arith)))
 
 loop-less : tie.Need-loop-less Inv-loop μ-loop
 loop-less c = search needs
 
 loop-again : tie.Need-loop-again Inv-loop μ-loop
-loop-again c = λ w. let b = c .before .before .before .before .before .before .before .before .before .before .before .before .before .before .before .before .before .before .before .before .before .before .before .before .before .before .before .before .before .before .before .before .before .before .before .before .before .before in
-    let a = b .args in
-    let ok = w .input in
-    let g = b .pre .1 .1 in
-    let l = c .before .before .before .before .before .before .before .before .before .before .before .before .before .before .before .before .before .before .before .loop in
-    let inv = l .inv w in
-    let i = inv .here .inside in
-    let pos = c .before .before .before .before .before .before .before .before .before .before .before .before .before .before .before .before .before .before .loop-test .taken in
-    let eh = c .before .before .before .before .before .before .before .before .before .before .before .before .before .before .before .widen2 .ensures .0 in
-    let ea = c .before .before .before .before .before .before .before .before .before .before .before .before .before .before .clip2 .ensures in
-    let less = size-less (inv .here) pos eh ea in
-    let z = size-back (inv .here) pos eh ea in
-    let row = spread-row (a .t1) (w .view) (a .first) (a .n) (a .more) (a .from) {j = l .j} {j′ = l .j - 1} (w .marks) (w .inside) (omega (arith, i)) (omega (arith, pos)) (c .before .before .before .before .before .before .before .before .before .before .before .before .before .before .before .before .widen .ensures .0) eh (gaps (ok .pattern) (l .j) i .0) z (inv .here .rows) (less .0) (inv .holds) (c .before .before .before .before .before .before .before .before .before .before .before .spread .ensures) in
-    let kept = c .before .before .before .before .before .before .before .before .before .before .before .spread .kept in
-    let kept2 = c .before .before .before .before .sums2 .kept in
-    counting-more inv pos eh ea (kept2 .1 .0 ∙ kept .1 .1 .1 .1 .1 .1 .0) (kept2 .1 .1 .0 ∙ kept .1 .1 .1 .1 .1 .1 .1 .0) (row-holds (a .t1) (w .view) (a .first) (a .n) (a .more) (a .from) row z (c .before .before .before .before .sums2 .ensures))
+loop-again c = let p = spread-at c in let u = sums-at (p .before .before .before) in let k = clip2-at (u .before) in let h = high-at k in let l = turn h .before .loop in
+    let kept = p .spread .kept .1 .1 .1 .1 .1 .1 in let hi = kept .0 ∙ u .sums .kept .1 .0 in let lo = kept .1 .0 ∙ u .sums .kept .1 .1 .0 in (
+      hi ∙ l .inv .0,
+      lo ∙ l .inv .1,
+      λ g. counting-more (row (turn h) g) (g .plan .handed .input) (g .inside) (u .sums .ensures) (turn h .loop-test .taken) (low h g) (high h g) (k .clip2 .ensures) (g .plan .handed .table)
+          hi lo (p .spread .ensures),
+    )
 
 same-length : tie.Need-same-length Inv-loop μ-loop
-same-length c = c .before .loop .inv (c .before .before .before .before .before .before .before .before .before .before .before .before .before .before .before .before .before .before .before .before .pre .0) .long ∙ c .before .before .before .before .before .before .sums .kept .1 .0 ∙ c .before .before .before .before .before .before .before .before .before .before .before .before .before .ends .kept .1 .1 .1 .1 .1 .0
+same-length c = c .before .loop .inv .0 ∙ ends-at (c .before .before) .ends .kept .1 .1 .1 .1 .1 .0
 
 same-length-2 : tie.Need-same-length-2 Inv-loop μ-loop
-same-length-2 c = c .before .loop .inv (c .before .before .before .before .before .before .before .before .before .before .before .before .before .before .before .before .before .before .before .before .pre .0) .long′ ∙ c .before .before .before .before .before .before .sums .kept .1 .1 .0 ∙ c .before .before .before .before .before .before .before .before .before .before .before .before .before .ends .kept .1 .1 .1 .1 .1 .1 .0
+same-length-2 c = c .before .loop .inv .1 ∙ ends-at (c .before .before) .ends .kept .1 .1 .1 .1 .1 .1 .0
 
 returns : tie.Need-returns Inv-loop μ-loop
-returns c = λ w. counted (c .before .loop .inv w) (c .loop-test .left)
+returns c = λ g. counted (c .before .loop .inv .2 g) (c .loop-test .left)
 
 pub ways-spec : {M : Type 1} → statement M
 ways-spec =
@@ -256,27 +190,26 @@ ways-spec =
     μ-loop
     sub-j
     add-clip
-    add-clip-2
     clip-requires
     mul-ends
     add-ends
     ends-requires
-    sums-requires
     loop-holds
-    mul-s
-    element-copy-out-s
+    mul-widen
+    shared-slice-read-widen
     widen-requires
+    mul-widen-2
+    shared-slice-read-widen-2
     widen-requires-2
     sub-j-2
     sub-r
     sub-r-2
-    add-clip-3
-    add-clip-4
+    add-clip-2
     clip-requires-2
+    sums-requires
     mul-spread
     add-spread
     spread-requires
-    sums-requires-2
     loop-less
     loop-again
     same-length

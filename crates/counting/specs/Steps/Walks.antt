@@ -4,10 +4,9 @@ use mathlib.Core.List.{List, [], _∷_, _++_, map}
 use mathlib.Core.Path.{_≡_}
 use lib.ListN.{length, getD, take}
 use lib.Seq.{paste}
-use Rattle.pattern.specs.declared.Pattern.{Pattern}
 use Rattle.matching.specs.Laws.Sums.{gather}
 use Rattle.matching.specs.Occurrences.{places}
-use Rattle.counting.specs.Tables.{Next}
+use Rattle.counting.specs.Steps.Tables.{Next}
 
 -- the rows that start at an index from x to y - 1
 unfoldable pub run : (ℕ → List (List ℕ)) → ℕ → ℕ → List (List ℕ)
@@ -17,11 +16,6 @@ run g x y = gather g (places x (y - x))
 unfoldable pub put : ℕ → ℕ → List (List ℕ) → List ℕ → List ℕ
 put m a [] l = l
 put m a (r ∷ R) l = put m (suc a) R (paste l (a * m) r m)
-
--- the gaps before the slots, one of the two bounds
-pub record Bounds (f : Pattern) (of : ℕ → ℕ) (b : List ℕ) : Type 0 where
-  pub long : length b ≡ 16
-  pub bound : (j : ℕ) → j < f .count → getD b j 0 ≡ of j
 
 -- the table N and the gaps lead through the rows G: m slots, slot j with n j indexes, the first at the place first + 1
 pub record Leads (m first : ℕ) (low high N : List ℕ) (n : ℕ → ℕ) (G : ℕ → ℕ → List (List ℕ)) : Type 0 where

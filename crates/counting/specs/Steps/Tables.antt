@@ -9,7 +9,9 @@ use lib.Dec.{leb}
 use Rattle.pattern.specs.declared.Pattern.{Pattern}
 use Rattle.matching.specs.Occurrence.{View}
 use Rattle.matching.specs.Laws.Branches.{branches}
-use Rattle.counting.specs.Steps.{marked, size, stopAt}
+use Rattle.counting.specs.declared.window.Window.{Window}
+use Rattle.counting.specs.Steps.Fits.{fitted}
+use Rattle.counting.specs.Steps.Rows.{size, stopAt}
 
 -- ---- one slot's entries, by a test of each index
 
@@ -26,11 +28,11 @@ pub record Reached (alive : ℕ → Bool) (n base : ℕ) (N N′ : List ℕ) : T
 
 -- the last slot can stand there, at the place `from` or later
 abbrev pub ends : List ℕ → ℕ → ℕ → ℕ → ℕ → Bool
-ends M at first from i = marked M (at + i) && leb from (first + i + 1)
+ends T at first from i = fitted T (at + i) && leb from (first + i + 1)
 
 -- a slot can stand there, and the next slot in its gap, by its entries N up to m
 abbrev pub leads : List ℕ → ℕ → ℕ → ℕ → ℕ → ℕ → List ℕ → ℕ → Bool
-leads M at low high m base N i = marked M (at + i) && leb (getD N (base + 20001 + min (i + low + 1) m) 0) (i + high + 1)
+leads T at low high m base N i = fitted T (at + i) && leb (getD N (base + 20001 + min (i + low + 1) m) 0) (i + high + 1)
 
 -- ---- the whole table
 
@@ -41,13 +43,13 @@ pub record Next (g : ℕ → List (List ℕ)) (n i v : ℕ) : Type 0 where
   pub here : v < 65535 → (v < n) × (g v ≡ [] → ⊥)
 
 -- the rows of slot j and the k after it that start at an index
-unfoldable pub rowsOf : Pattern → View → ℕ → ℕ → ℕ → ℕ → ℕ → ℕ → ℕ → List (List ℕ)
-rowsOf f v first n more from k j x = branches f v (stopAt f first n more) from k j (first + x + 1)
+unfoldable pub rowsOf : Pattern → View → Window → ℕ → ℕ → ℕ → List (List ℕ)
+rowsOf f v w k j x = branches f v (stopAt f w) (w .from) k j (w .first + x + 1)
 
 -- and all the slots after it
-abbrev pub rowsAt : Pattern → View → ℕ → ℕ → ℕ → ℕ → ℕ → ℕ → List (List ℕ)
-rowsAt f v first n more from j = rowsOf f v first n more from (f .count - 1 - j) j
+abbrev pub rowsAt : Pattern → View → Window → ℕ → ℕ → List (List ℕ)
+rowsAt f v w j = rowsOf f v w (f .count - 1 - j) j
 
 -- the entries of slot j and the slots after it
-pub record Tabled (f : Pattern) (v : View) (first n more from j : ℕ) (N : List ℕ) : Type 0 where
-  pub next : (a : ℕ) → j ≤ a → a < f .count → (i : ℕ) → i ≤ size f n more a → Next (rowsAt f v first n more from a) (size f n more a) i (getD N (a * 20001 + i) 0)
+pub record Tabled (f : Pattern) (v : View) (w : Window) (j : ℕ) (N : List ℕ) : Type 0 where
+  pub next : (a : ℕ) → j ≤ a → a < f .count → (i : ℕ) → i ≤ size f w a → Next (rowsAt f v w a) (size f w a) i (getD N (a * 20001 + i) 0)
