@@ -2,12 +2,13 @@
 use Prim.Native.Nat.{ℕ, _+_, _-_, _≤_, _<_}
 use mathlib.Core.List.{List}
 use mathlib.Core.Bool.{true, false, true≢false}
-use mathlib.Core.Path.{_≡_, refl, sym, _∙_}
+use mathlib.Core.Path.{_≡_, refl, sym, ap, _∙_}
 use native.Mathlib.Decide.{ℕ-discrete, decLt}
 use native.Mathlib.Omega.{arith}
-use lib.ListN.{length, take, set}
-use lib.Seq.{getD-take, length-take-le}
+use lib.ListN.{length, take, set, length-set}
+use lib.Seq.{getD-take, getD-set-other, length-take-le}
 use Rattle.pattern.specs.declared.Pattern.{Pattern}
+use Rattle.pattern.specs.Laws.Arrays.{set-more}
 use Rattle.matching.specs.declared.search.Answer.{Answer}
 use Rattle.matching.specs.Occurrence.{View, OccursIn, at}
 use Rattle.matching.specs.Rows.{Before, NotAfter}
@@ -97,7 +98,35 @@ module _ (f : Pattern) (v : View) {marks : List ℕ} {s : Answer} (S : Started (
       let no-such : a .found ≡ true → ⊥ = λ g. true≢false (sym g ∙ d) in
       record { some = λ g. absurd (no-such g); size = λ g. absurd (no-such g); rest = λ g. absurd (no-such g); none = λ _ q O P. S .none e q P (λ k h. omega (arith, O .inside k h .1)) }
 
--- a mark at the text's end leaves nothing past it
-pub start-none : (m n : ℕ) (marks : List ℕ) (j : ℕ) → j < m → n ≤ at marks j → (q : List ℕ) → Before m marks q → ((k : ℕ) → k < m → at q k ≤ n) → ⊥
-unfolding Before
-start-none m n marks j l h q past inside = omega (arith, past j l, inside j l)
+-- ---- the row just past the marks
+
+-- the first j places are raised by one, the others as they were
+pub record Starting (m : ℕ) (p₀ p : List ℕ) (j : ℕ) : Type 0 where
+  pub within : j ≤ m
+  pub size : length p ≡ length p₀
+  pub past : (k : ℕ) → k < j → at p k ≡ at p₀ k + 1
+  pub rest : (k : ℕ) → j ≤ k → at p k ≡ at p₀ k
+
+pub starting-begin : (m : ℕ) (p : List ℕ) → Starting m p p 0
+starting-begin m p = record { within = omega arith; size = refl; past = λ k h. absurd (omega arith); rest = λ k _. refl }
+
+module _ {m : ℕ} {p₀ p : List ℕ} {j : ℕ} (S : Starting m p₀ p j) where
+  pub starting-more : j < m → m ≤ length p₀ → Starting m p₀ (set p j (at p j + 1)) (j + 1)
+  starting-more h room =
+      let z : j < length p = omega (arith, S .size) in
+      record {
+        within = omega arith;
+        size = length-set p j _ ∙ S .size;
+        past = set-more 0 (λ k x. x ≡ at p₀ k + 1) p j _ z (S .past) (ap (λ (x : ℕ). x + 1) (S .rest j (omega arith)));
+        rest = λ k l. getD-set-other p j k _ 0 (λ q. omega arith) ∙ S .rest k (omega arith);
+      }
+
+  -- a mark at the text's end leaves nothing past it
+  pub started-none : {n : ℕ} {a : Answer} → j < m → n ≤ at p j → a .found ≡ false → Started m n p₀ a
+  unfolding Before
+  started-none {a = a} l h e =
+      let no-such : a .found ≡ true → ⊥ = λ g. true≢false (sym g ∙ e) in
+      record { past = λ g. absurd (no-such g); rest = λ g. absurd (no-such g); none = λ _ q past inside. omega (arith, S .rest j (omega arith), past j l, inside j l) }
+
+  pub started : {n : ℕ} → m ≤ j → Started m n p₀ (record { found = true; places = p })
+  started h = record { past = λ _ k l. S .past k (omega arith); rest = λ _ k l. S .rest k (omega (arith, S .within)); none = λ e. absurd (true≢false e) }

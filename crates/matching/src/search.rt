@@ -5,12 +5,9 @@ use crate::layout::lay_out;
 use crate::places::first;
 use crate::places::wide;
 use pattern::Pattern;
-ghost use mathlib.Core.Path.{_≡_};
-ghost use Prim.Native.Nat.{_≤_, _<_};
 ghost use lib.ListN.{length};
-ghost use Rattle.matching.specs.Occurrence.{at};
-ghost use Rattle.matching.specs.Steps.Settling.{Ready, Visited, Placed, Settled, Started, Answered, Spare};
-ghost use Rattle.matching.specs.Steps.Layout.{Plan, planned};
+ghost use Rattle.matching.specs.Steps.Settling.{Ready, Visited, Entries, Settled, Started, Answered, Spare};
+ghost use Rattle.matching.specs.Steps.Layout.{Plan, Visitable, Raisable, Searchable, planned};
 ghost use Rattle.matching.specs.Steps.Turning.{viewed};
 
 // Whether there is an occurrence, and then its places, 0 past the pattern's slots.
@@ -30,7 +27,7 @@ fn visit(
     p: &[u16],
     j: usize,
 ) -> usize
-    requires { ⌜ Plan (length (now text)) m least most (now layout) ⌝ ∗ ⌜ (j < m) × (length (now p) ≡ 16) × (1 ≤ at (now p) j) ⌝ }
+    requires { ⌜ Visitable (length (now text)) m least most (now layout) (now p) j ⌝ }
     ensures { λ r. ⌜ ((w : Plan (length (now (text .entry))) m least most (now (layout .entry))) → Visited (planned w) (viewed mirrored (planned w) (now (text .entry))) (now (p .entry)) j r) ⌝ }
 {
     let i = prior(j, m);
@@ -61,7 +58,7 @@ fn settle(
     mirrored: bool,
     p: &mut [u16],
 ) -> bool
-    requires { ⌜ Plan (length (now text)) m least most (now layout) ⌝ ∗ ⌜ (length (now p) ≡ 16) × Placed m (now p) ⌝ }
+    requires { ⌜ Raisable (length (now text)) m least most (now layout) (now p) ⌝ }
     ensures { λ r. ⌜ ((w : Plan (length (now (text .entry))) m least most (now (layout .entry))) → Settled (planned w) (viewed mirrored (planned w) (now (text .entry))) (now (p .entry)) (record { found = r; places = now (p .exit) })) ⌝ }
 {
     let n = text.len();
@@ -87,7 +84,7 @@ fn settle(
 
 // Raises the first m places of the row by one, if they are in a text of n words then.
 fn start(m: usize, n: usize, p: &mut [u16]) -> bool
-    requires { ⌜ (m ≤ length (now p)) × (n ≤ 20000) ⌝ }
+    requires { ⌜ Entries m n (now p) ⌝ }
     ensures { λ r. ⌜ Started m n (now (p .entry)) (record { found = r; places = now (p .exit) }) ⌝ }
 {
     let mut j = 0;
@@ -112,7 +109,7 @@ pub(crate) fn advance(
     mirrored: bool,
     p: &mut [u16],
 ) -> bool
-    requires { ⌜ Plan (length (now text)) m least most (now layout) ⌝ ∗ ⌜ Spare m (now p) ⌝ }
+    requires { ⌜ Searchable (length (now text)) m least most (now layout) (now p) ⌝ }
     ensures { λ r. ⌜ ((w : Plan (length (now (text .entry))) m least most (now (layout .entry))) → Answered (planned w) (viewed mirrored (planned w) (now (text .entry))) (now (p .entry)) (record { found = r; places = now (p .exit) })) ⌝ }
 {
     if start(m, text.len(), p) {

@@ -1,5 +1,5 @@
--- A pattern's slots as numbers, eleven a slot.
-use Prim.Native.Nat.{ℕ, _*_, _<_}
+-- A pattern's slots as numbers, eleven a slot, and what the steps of a search are given.
+use Prim.Native.Nat.{ℕ, _*_, _≤_, _<_}
 use mathlib.Core.List.{List}
 use mathlib.Core.Path.{_≡_}
 use lib.ListN.{length, take, drop}
@@ -8,7 +8,7 @@ use Rattle.pattern.specs.declared.Pattern.{Pattern}
 use Rattle.pattern.specs.Patterns.{slotAt}
 use Rattle.pattern.specs.Numbers.{Numbers}
 use Rattle.matching.specs.Occurrence.{at}
-use Rattle.matching.specs.Steps.Settling.{Ready}
+use Rattle.matching.specs.Steps.Settling.{Ready, Placed, Spare}
 
 -- the slot stands in l from the entry a on
 pub record LaidSlot (s : Slot) (a : ℕ) (l : List ℕ) : Type 0 where
@@ -34,3 +34,21 @@ pub record Plan (n m least most : ℕ) (l : List ℕ) : Type 0 where
 
 abbrev pub planned : {n m least most : ℕ} {l : List ℕ} → Plan n m least most l → Pattern
 planned {m = m} {least} {most} w = patternOf (w .slots) m least most
+
+-- what a visit of the slot j needs: a plan, and a place of the row p for the slot
+pub record Visitable (n m least most : ℕ) (l p : List ℕ) (j : ℕ) : Type 0 where
+  pub plan : Plan n m least most l
+  pub slot : j < m
+  pub size : length p ≡ 16
+  pub placed : 1 ≤ at p j
+
+-- what raising the row p to an occurrence needs: a plan, and a place of the row for every slot
+pub record Raisable (n m least most : ℕ) (l p : List ℕ) : Type 0 where
+  pub plan : Plan n m least most l
+  pub size : length p ≡ 16
+  pub placed : Placed m p
+
+-- what a search past the row p needs
+pub record Searchable (n m least most : ℕ) (l p : List ℕ) : Type 0 where
+  pub plan : Plan n m least most l
+  pub spare : Spare m p

@@ -41,6 +41,11 @@ pub record Spare (m : ℕ) (p : List ℕ) : Type 0 where
   pub size : length p ≡ 16
   pub rest : (j : ℕ) → m ≤ j → at p j ≡ 0
 
+-- the list has its first k entries, and n words are no more than a text has
+pub record Entries (k n : ℕ) (l : List ℕ) : Type 0 where
+  pub inside : k ≤ length l
+  pub short : n ≤ 20000
+
 -- no occurrence is at or after the row p
 abbrev pub Never : Pattern → View → List ℕ → Type 0
 Never f v p = (q : List ℕ) → OccursIn f v q → NotAfter (f .count) p q → ⊥

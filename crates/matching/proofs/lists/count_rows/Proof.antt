@@ -28,7 +28,7 @@ slice-aggregate-advance-2 : tie.Need-slice-aggregate-advance-2 Inv-loop μ-loop
 slice-aggregate-advance-2 c = search needs
 
 advance-requires : tie.Need-advance-requires Inv-loop μ-loop
-advance-requires c κs = (plan (c .before .before .before .before .before .pre) ((c .before .before .before .lay-out) .ensures), (c .before .before .loop) .inv .spare)
+advance-requires c κs = record { plan = plan (c .before .before .before .before .before .pre) ((c .before .before .before .lay-out) .ensures); spare = (c .before .before .loop) .inv .spare }
 
 add-k : tie.Need-add-k Inv-loop μ-loop
 add-k c = omega (arith, counted-few ((c .before .before .before .before .before .loop) .inv) (c .before .before .before .before .before .before .before .before .pre))

@@ -48,7 +48,7 @@ slice-aggregate-advance-2 : tie.Need-slice-aggregate-advance-2 Inv-loop μ-loop
 slice-aggregate-advance-2 c = search needs
 
 advance-requires : tie.Need-advance-requires Inv-loop μ-loop
-advance-requires c κs = (plan ((c .before .before .before .before .before .before .pre) .0) ((c .before .before .before .lay-out) .ensures), (c .before .before .loop) .inv .counted .spare)
+advance-requires c κs = record { plan = plan ((c .before .before .before .before .before .before .pre) .0) ((c .before .before .before .lay-out) .ensures); spare = (c .before .before .loop) .inv .counted .spare }
 
 mul-at : tie.Need-mul-at Inv-loop μ-loop
 mul-at c = omega (arith, small (c))

@@ -1,6 +1,8 @@
 -- `advance` meets its contract: what is past the row is at or after the row just past it.
 use mathlib.Core.Path.{refl}
 use native.Mathlib.Omega.{arith}
+use Rattle.pattern.specs.declared.Pattern.{Pattern}
+use Rattle.matching.specs.Occurrence.{View}
 use Rattle.matching.specs.Steps.Turning.{viewed}
 use Rattle.matching.specs.Steps.Layout.{planned}
 use Rattle.matching.proofs.Settling.{answered, unanswered}
@@ -8,23 +10,54 @@ use borrow.Author.Needs.{needs}
 use Rattle.matching.proofs.search.advance.Statement.{statement}
 use Rattle.matching.proofs.search.advance.Tie as tie
 
+-- ---- the places of the body
+
+abbrev entry : tie.After-start-arg → tie.Start
+entry c = c .before .before .before .before
+
+abbrev start-at : tie.After-slice-known2 → tie.After-start
+start-at c = c .before .before
+
+abbrev begin : tie.After-slice-known2 → tie.Start
+begin c = entry (start-at c .before)
+
+abbrev then-at : tie.After-settle → tie.Then1
+then-at c = c .before .before
+
+abbrev settle-at : tie.After-slice-known3 → tie.After-settle
+settle-at c = c .before .before
+
+-- what a search for the pattern sees of the text
+abbrev seen : tie.After-slice-known2 → Pattern → View
+seen c f = viewed (begin c .args .mirrored) f (begin c .args .text .now)
+
+-- ----
+
 start-requires : tie.Need-start-requires
-start-requires c κs = (omega (arith, (c .before .before .before .before .pre) .0 .ready .few, (c .before .before .before .before .pre) .1 .size), (c .before .before .before .before .pre) .0 .ready .short)
+start-requires c κs =
+    let a = entry c .pre in
+    record { inside = omega (arith, a .plan .ready .few, a .spare .size); short = a .plan .ready .short }
 
 settle-requires : tie.Need-settle-requires
-settle-requires c κs = ((c .before .before .before .before .before .before .before .before .before .pre) .0, (omega (arith, (c .before .before .before .before .before .before .before .before .before .pre) .1 .size), λ k h. omega (arith, (c .before .before .before .before .start) .ensures .past ((c .before .if1) .taken) k h)))
+settle-requires c κs =
+    let b = c .before .before in
+    let a = begin b .pre in
+    record { plan = a .plan; size = omega (arith, a .spare .size); placed = λ k h. omega (arith, start-at b .start .ensures .past (c .before .if1 .taken) k h) }
 
 same-length : tie.Need-same-length
 same-length c = search needs
 
 returns : tie.Need-returns
-returns c = λ w. let a = (c .before .before .before .before .before .before .before .before .before .before .before .before .args) in answered (planned w) (viewed (a .mirrored) (planned w) (a .text .now)) ((c .before .before .before .before .before .before .before .start) .ensures) ((c .before .before .before .before .before .before .before .before .before .before .before .before .pre) .1) ((c .before .before .before .before .if1) .taken) ((c .before .before .settle) .ensures w)
+returns c = λ w.
+    let e = then-at (settle-at c) in
+    let b = e .before in
+    answered (planned w) (seen b (planned w)) (start-at b .start .ensures) (begin b .pre .spare) (e .if1 .taken) (settle-at c .settle .ensures w)
 
 same-length-2 : tie.Need-same-length-2
 same-length-2 c = search needs
 
 returns-2 : tie.Need-returns-2
-returns-2 c = λ w. let a = (c .before .before .before .before .before .before .before .before .args) in unanswered (planned w) (viewed (a .mirrored) (planned w) (a .text .now)) ((c .before .before .before .start) .ensures) refl ((c .if1) .left)
+returns-2 c = λ w. unanswered (planned w) (seen (c .before) (planned w)) (start-at (c .before) .start .ensures) refl (c .if1 .left)
 
 pub advance-spec : {M : Type 1} → statement M
 advance-spec =

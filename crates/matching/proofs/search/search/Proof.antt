@@ -4,6 +4,16 @@ use borrow.Author.Needs.{needs}
 use Rattle.matching.proofs.search.search.Statement.{statement}
 use Rattle.matching.proofs.search.search.Tie as tie
 
+-- ---- the places of the body
+
+abbrev lay-out-at : tie.After-places → tie.After-lay-out
+lay-out-at c = c .before .before
+
+abbrev start : tie.After-places → tie.Start
+start c = lay-out-at c .before .before
+
+-- ----
+
 lay-out-requires : tie.Need-lay-out-requires
 lay-out-requires c κs = search needs
 
@@ -14,10 +24,10 @@ slice-aggregate-advance-2 : tie.Need-slice-aggregate-advance-2
 slice-aggregate-advance-2 c = search needs
 
 advance-requires : tie.Need-advance-requires
-advance-requires c κs = (plan ((c .before .before .before .before .pre) .0) ((c .before .before .lay-out) .ensures), (c .before .before .before .before .pre) .1)
+advance-requires c κs = record { plan = plan (start c .pre .0) (lay-out-at c .lay-out .ensures); spare = start c .pre .1 }
 
 returns : tie.Need-returns
-returns c = (c .before .advance) .ensures (plan ((c .before .before .before .before .before .before .pre) .0) ((c .before .before .before .before .lay-out) .ensures))
+returns c = let b = c .before .before in c .before .advance .ensures (plan (start b .pre .0) (lay-out-at b .lay-out .ensures))
 
 pub search-spec : {M : Type 1} → statement M
 search-spec =

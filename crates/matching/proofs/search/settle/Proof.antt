@@ -2,12 +2,14 @@
 use mathlib.Core.Path.{_≡_, refl, sym, _∙_}
 use lib.ListN.{length}
 use native.Mathlib.Omega.{arith}
-use Prim.Native.Nat.{_+_, _*_, _-_}
+use Prim.Native.Nat.{_+_, _*_, _-_, _≤_, _<_}
+use Rattle.pattern.specs.declared.Pattern.{Pattern}
 use Rattle.matching.proofs.Raising.{none, less, placed}
 use Rattle.matching.proofs.Settling.{Calm, calm-begin, calm-same, calm-raise, all-calm, settled, unsettled}
+use Rattle.matching.specs.Occurrence.{View}
 use Rattle.matching.specs.Steps.Turning.{viewed}
 use Rattle.matching.specs.Steps.Settling.{slack}
-use Rattle.matching.specs.Steps.Layout.{Plan, planned}
+use Rattle.matching.specs.Steps.Layout.{Plan, Raisable, planned}
 use borrow.Author.Needs.{needs}
 use Rattle.matching.proofs.search.settle.Statement.{statement}
 use Rattle.matching.proofs.search.settle.Tie as tie
@@ -18,59 +20,126 @@ Inv-loop layout m least most text mirrored p₀ n calm₀ j₀ p calm j = (w : P
 abbrev μ-loop : tie.MeasureT-loop
 μ-loop layout m least most text mirrored p₀ n calm₀ j₀ p calm j = 17 * slack p + (m - calm)
 
+-- ---- the places of the body
+
+abbrev start : tie.At-loop Inv-loop μ-loop → tie.Start Inv-loop μ-loop
+start c = c .before .before .before .before
+
+abbrev test-at : tie.After-next Inv-loop μ-loop → tie.In-loop Inv-loop μ-loop
+test-at c = c .before
+
+abbrev loop-at : tie.After-next Inv-loop μ-loop → tie.At-loop Inv-loop μ-loop
+loop-at c = test-at c .before
+
+abbrev next-at : tie.After-visit Inv-loop μ-loop → tie.After-next Inv-loop μ-loop
+next-at c = c .before .before
+
+abbrev visit-at : tie.After-wide Inv-loop μ-loop → tie.After-visit Inv-loop μ-loop
+visit-at c = c .before .before .before
+
+-- ---- what is known there: the pattern, the text as it is read, and what the visits so far come to
+
+abbrev given : (c : tie.At-loop Inv-loop μ-loop)
+    → Raisable (length (start c .args .text .now)) (start c .args .m) (start c .args .least) (start c .args .most) (start c .args .layout .now) (start c .args .p .now)
+given c = start c .pre
+
+abbrev f : tie.At-loop Inv-loop μ-loop → Pattern
+f c = planned (given c .plan)
+
+abbrev v : tie.At-loop Inv-loop μ-loop → View
+v c = viewed (start c .args .mirrored) (f c) (start c .args .text .now)
+
+abbrev calm : (c : tie.At-loop Inv-loop μ-loop) → Calm (f c) (v c) (start c .args .p .now) (c .loop .p) (c .loop .calm) (c .loop .j)
+calm c = c .loop .inv (given c .plan)
+
+-- the slot has its place in the row
+inside : (c : tie.At-loop Inv-loop μ-loop) → (c .loop .j < 16) × (length (c .loop .p) ≡ 16)
+inside c = (omega (arith, calm c .slot, given c .plan .ready .few), calm c .rising .size)
+
+same-size : (c : tie.At-loop Inv-loop μ-loop) → length (c .loop .p) ≡ length (start c .args .p .now)
+same-size c = calm c .rising .size ∙ sym (given c .size)
+
+-- the place that the visit found is in the text
+in-text : (c : tie.After-wide Inv-loop μ-loop) → visit-at c .visit .result ≤ length (start (loop-at (next-at (visit-at c))) .args .text .now)
+in-text c = omega (arith, c .before .before .if1 .left)
+
+-- ----
+
 loop-holds : tie.Need-loop-holds Inv-loop μ-loop
-loop-holds c = λ w. calm-begin _ ((c .before .before .before .pre) .1 .0) (w .ready .some)
+loop-holds c = λ w. calm-begin _ (c .before .before .before .pre .size) (w .ready .some)
 
 next-requires : tie.Need-next-requires Inv-loop μ-loop
-next-requires c κs = (c .before .loop) .inv ((c .before .before .before .before .before .pre) .0) .slot
+next-requires c κs = calm (c .before) .slot
 
 visit-requires : tie.Need-visit-requires Inv-loop μ-loop
-visit-requires c κs = let s = (c .before .before .before .loop) .inv ((c .before .before .before .before .before .before .before .pre) .0) in ((c .before .before .before .before .before .before .before .pre) .0, (s .slot, s .rising .size, placed (s .rising) ((c .before .before .before .before .before .before .before .pre) .1 .1) ((c .before .before .before .loop) .j) (s .slot)))
+visit-requires c κs =
+    let l = loop-at (c .before) in
+    let s = calm l in
+    record { plan = given l .plan; slot = s .slot; size = s .rising .size; placed = placed (s .rising) (given l .placed) (l .loop .j) (s .slot) }
 
 same-length : tie.Need-same-length Inv-loop μ-loop
-same-length c = (c .before .before .before .before .before .loop) .inv ((c .before .before .before .before .before .before .before .before .before .pre) .0) .rising .size ∙ sym ((c .before .before .before .before .before .before .before .before .before .pre) .1 .0)
+same-length c = same-size (loop-at (next-at (c .before)))
 
 returns : tie.Need-returns Inv-loop μ-loop
-returns c = λ w. unsettled refl (none ((c .before .before .before .before .before .loop) .inv w .rising) ((c .before .visit) .ensures w) ((c .before .before .before .before .before .loop) .inv w .slot) (omega (arith, (c .if1) .taken)))
+returns c = λ w.
+    let s = loop-at (next-at (c .before)) .loop .inv w in
+    unsettled refl (none (s .rising) (c .before .visit .ensures w) (s .slot) (omega (arith, c .if1 .taken)))
 
 mul-wide : tie.Need-mul-wide Inv-loop μ-loop
-mul-wide c = let s = (c .before .before .before .before .before .loop) .inv ((c .before .before .before .before .before .before .before .before .before .pre) .0) in omega (arith, s .slot, (c .before .before .before .before .before .before .before .before .before .pre) .0 .ready .few)
+mul-wide c = omega (arith, inside (loop-at (next-at (c .before))))
 
 slice-read-wide : tie.Need-slice-read-wide Inv-loop μ-loop
-slice-read-wide c = let s = (c .before .before .before .before .before .before .loop) .inv ((c .before .before .before .before .before .before .before .before .before .before .pre) .0) in omega (arith, s .slot, s .rising .size, (c .before .before .before .before .before .before .before .before .before .before .pre) .0 .ready .few)
+slice-read-wide c = omega (arith, inside (loop-at (next-at (c .before .before))))
 
 wide-requires : tie.Need-wide-requires Inv-loop μ-loop
 wide-requires c κs = search needs
 
 add-calm : tie.Need-add-calm Inv-loop μ-loop
-add-calm c = omega (arith, (c .before .before .before .before .before .before .before .loop-test) .taken, (c .before .before .before .before .before .before .before .before .before .before .before .before .pre) .0 .ready .few)
+add-calm c =
+    let d = next-at (visit-at (c .before)) in
+    omega (arith, test-at d .loop-test .taken, given (loop-at d) .plan .ready .few)
 
 loop-less : tie.Need-loop-less Inv-loop μ-loop
-loop-less c = omega (arith, (c .before .before .before .before .before .before .before .loop-test) .taken)
+loop-less c = omega (arith, test-at (next-at (visit-at (c .before))) .loop-test .taken)
 
 loop-again : tie.Need-loop-again Inv-loop μ-loop
-loop-again c = λ w. calm-same ((c .before .before .before .before .before .before .before .before .loop) .inv w) ((c .before .before .before .before .before .before .next) .ensures) ((c .before .before .before .before .visit) .ensures w) (omega (arith, (c .before .before .before .if1) .left)) ((c .before .before .before .before .before .before .before .loop-test) .taken) ((c .if2) .taken ∙ (c .before .wide) .ensures .0)
+loop-again c = λ w.
+    let b = visit-at (c .before) in
+    let d = next-at b in
+    let same = c .if2 .taken ∙ c .before .wide .ensures .0 in
+    calm-same (loop-at d .loop .inv w) (d .next .ensures) (b .visit .ensures w) (in-text (c .before)) (test-at d .loop-test .taken) same
 
 cast-p : tie.Need-cast-p Inv-loop μ-loop
-cast-p c = omega (arith, (c .before .before .before .if1) .left, (c .before .before .before .before .before .before .before .before .before .before .before .before .pre) .0 .ready .short)
+cast-p c = omega (arith, in-text (c .before), given (loop-at (next-at (visit-at (c .before)))) .plan .ready .short)
 
 mul-p : tie.Need-mul-p Inv-loop μ-loop
-mul-p c = let s = (c .before .before .before .before .before .before .before .before .loop) .inv ((c .before .before .before .before .before .before .before .before .before .before .before .before .pre) .0) in omega (arith, s .slot, (c .before .before .before .before .before .before .before .before .before .before .before .before .pre) .0 .ready .few)
+mul-p c = omega (arith, inside (loop-at (next-at (visit-at (c .before)))))
 
 slice-write-p : tie.Need-slice-write-p Inv-loop μ-loop
-slice-write-p c = let s = (c .before .before .before .before .before .before .before .before .loop) .inv ((c .before .before .before .before .before .before .before .before .before .before .before .before .pre) .0) in omega (arith, s .slot, s .rising .size, (c .before .before .before .before .before .before .before .before .before .before .before .before .pre) .0 .ready .few)
+slice-write-p c = omega (arith, inside (loop-at (next-at (visit-at (c .before)))))
 
 loop-less-2 : tie.Need-loop-less-2 Inv-loop μ-loop
-loop-less-2 c = let w = (c .before .before .before .before .before .before .before .before .before .before .before .before .pre) .0 in let s = (c .before .before .before .before .before .before .before .before .loop) .inv w in omega (arith, w .ready .few, (c .before .before .before .before .before .before .before .loop-test) .taken, less (s .rising) ((c .before .before .before .before .visit) .ensures w) (s .slot) (w .ready) (omega (arith, (c .before .before .before .if1) .left)) (λ e. (c .if2) .left (e ∙ sym ((c .before .wide) .ensures .0))))
+loop-less-2 c =
+    let b = visit-at (c .before) in
+    let d = next-at b in
+    let w = given (loop-at d) .plan in
+    let s = calm (loop-at d) in
+    let raised = less (s .rising) (b .visit .ensures w) (s .slot) (w .ready) (in-text (c .before)) (λ e. c .if2 .left (e ∙ sym (c .before .wide .ensures .0))) in
+    omega (arith, w .ready .few, test-at d .loop-test .taken, raised)
 
 loop-again-2 : tie.Need-loop-again-2 Inv-loop μ-loop
-loop-again-2 c = λ w. calm-raise ((c .before .before .before .before .before .before .before .before .loop) .inv w) ((c .before .before .before .before .before .before .next) .ensures) ((c .before .before .before .before .visit) .ensures w) (omega (arith, (c .before .before .before .if1) .left)) (w .ready .few)
+loop-again-2 c = λ w.
+    let b = visit-at (c .before) in
+    let d = next-at b in
+    calm-raise (loop-at d .loop .inv w) (d .next .ensures) (b .visit .ensures w) (in-text (c .before)) (w .ready .few)
 
 same-length-2 : tie.Need-same-length-2 Inv-loop μ-loop
-same-length-2 c = (c .before .loop) .inv ((c .before .before .before .before .before .pre) .0) .rising .size ∙ sym ((c .before .before .before .before .before .pre) .1 .0)
+same-length-2 c = same-size (c .before)
 
 returns-2 : tie.Need-returns-2 Inv-loop μ-loop
-returns-2 c = λ w. settled (w .ready) ((c .before .before .before .before .before .pre) .1 .1) ((c .before .loop) .inv w .rising) (all-calm ((c .before .loop) .inv w) ((c .loop-test) .left))
+returns-2 c = λ w.
+    let s = c .before .loop .inv w in
+    settled (w .ready) (given (c .before) .placed) (s .rising) (all-calm s (c .loop-test .left))
 
 pub settle-spec : {M : Type 1} → statement M
 settle-spec =

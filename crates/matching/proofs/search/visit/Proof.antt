@@ -135,7 +135,7 @@ first-requires c κs = search needs
 returns : tie.Need-returns
 returns c = λ w.
     let a = start c .args in
-    let s = w .laid .slot (a .j) (start c .pre .1 .0) in
+    let s = w .laid .slot (a .j) (start c .pre .slot) in
     let k = next-at c .next .ensures .inside in
     let eleven : 11 * a .j + 11 - 11 * a .j ≡ 11 = omega arith in
     visited (prior-at c .prior .ensures) (next-at c .next .ensures)
