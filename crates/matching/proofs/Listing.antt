@@ -18,9 +18,9 @@ use Rattle.matching.specs.Occurrence.{View, plain}
 use Rattle.matching.specs.Lists.{leftmost, leftmostIn}
 use Rattle.matching.specs.Written.{flat, written}
 use Rattle.matching.specs.Answers.{listed, filled, Best}
-use Rattle.matching.specs.Steps.Settling.{Ready}
+use Rattle.matching.specs.Steps.Settling.{Ready, Entries}
 use Rattle.matching.specs.Steps.Turning.{viewed, flip}
-use Rattle.matching.specs.Steps.Listing.{Faces, shownRows, stored}
+use Rattle.matching.specs.Steps.Listing.{Faces, Room, shownRows, stored}
 use Rattle.matching.specs.Laws.Collections.{every-map}
 use Rattle.matching.specs.Laws.Direction.{forwards}
 use Rattle.matching.specs.Laws.Bounding.{greedy-hits}
@@ -45,7 +45,7 @@ room-always g b t {m} e h =
 sizes : (g : Pattern) (u : View) → 1 ≤ g .count → Every (λ r. length r ≡ g .count) (leftmostIn g u)
 sizes g u some = every-map (λ r o. o .size) (greedy-hits (forwards (g .count)) (leftmost-front g u some))
 
-pub turned-written : (g : Pattern) (u : View) → 1 ≤ g .count → (n rows : ℕ) (l₀ : List ℕ) {l l′ : List ℕ} → rows ≡ length (leftmostIn g u) → l ≡ written (g .count) (leftmostIn g u) l₀
+turned-written : (g : Pattern) (u : View) → 1 ≤ g .count → (n rows : ℕ) (l₀ : List ℕ) {l l′ : List ℕ} → rows ≡ length (leftmostIn g u) → l ≡ written (g .count) (leftmostIn g u) l₀
     → l′ ≡ flip n (take (rows * g .count) l) ++ drop (rows * g .count) l → l′ ≡ written (g .count) (reverse (map (flip n) (leftmostIn g u))) l₀
 turned-written g u some n rows l₀ {l} {l′} r q e =
     let m = g .count in
@@ -60,11 +60,30 @@ turned-written g u some n rows l₀ {l} {l′} r q e =
     ∙ ap (λ (x : List ℕ). x ++ D) (flat-reversed n F)
     ∙ ap (λ (x : ℕ). flat (reverse (map (flip n) F)) ++ drop (x * m) l₀) k
 
-pub stored-back : (b : Bool) → b ≡ true → (n : ℕ) (R : List (List ℕ)) → shownRows b n R ≡ reverse (map (flip n) R)
-stored-back b e n R = rw e
+shown-back : (b : Bool) → b ≡ true → (n : ℕ) (R : List (List ℕ)) → shownRows b n R ≡ reverse (map (flip n) R)
+shown-back b e n R = rw e
 
-pub stored-on : (b : Bool) → b ≡ false → (n : ℕ) (R : List (List ℕ)) → shownRows b n R ≡ R
-stored-on b e n R = rw e
+shown-on : (b : Bool) → b ≡ false → (n : ℕ) (R : List (List ℕ)) → shownRows b n R ≡ R
+shown-on b e n R = rw e
+
+-- the rows that were found, so many, stand in the list l₁
+module _ {g : Pattern} {b : Bool} {t l : List ℕ} (R : Room g b t l) {rows : ℕ} (N : rows ≡ length (leftmostIn g (viewed b g t))) where
+  abbrev F : List (List ℕ)
+  F = leftmostIn g (viewed b g t)
+
+  pub turnable : {l₁ : List ℕ} → length l₁ ≡ length l → Entries (rows * g .count) (length t) l₁
+  turnable e = record { inside = omega (arith, ap (λ (x : ℕ). x * g .count) N, R .rows); short = R .ready .short }
+
+  module _ {l₁ : List ℕ} (W : l₁ ≡ written (g .count) F l) where
+    pub stored-on : b ≡ false → (Rows rows ≡ Rows (length F)) × (l₁ ≡ written (g .count) (shownRows b (length t) F) l)
+    stored-on e = (ap Rows N, W ∙ ap (λ (x : List (List ℕ)). written (g .count) x l) (sym (shown-on b e (length t) F)))
+
+    pub stored-back : b ≡ true → {l₂ : List ℕ} → l₂ ≡ flip (length t) (take (rows * g .count) l₁) ++ drop (rows * g .count) l₁
+        → (Rows rows ≡ Rows (length F)) × (l₂ ≡ written (g .count) (shownRows b (length t) F) l)
+    stored-back e T = (
+      ap Rows N,
+      turned-written g (viewed b g t) (R .ready .some) (length t) rows l N W T ∙ ap (λ (x : List (List ℕ)). written (g .count) x l) (sym (shown-back b e (length t) F)),
+    )
 
 -- ---- what was found is the front list or the back list
 

@@ -10,15 +10,15 @@ use pattern::Refusal;
 use pattern::Verdict;
 ghost use mathlib.Core.Path.{_≡_};
 ghost use mathlib.Core.List.{_++_};
-ghost use Prim.Native.Nat.{_*_, _<_, _≤_};
+ghost use Prim.Native.Nat.{_≤_};
 ghost use lib.ListN.{length, take, drop};
 ghost use Rattle.pattern.specs.Tests.{inputVerdict};
 ghost use Rattle.matching.specs.Lists.{leftmost, leftmostIn, rightmost};
 ghost use Rattle.matching.specs.Written.{written};
 ghost use Rattle.matching.specs.Answers.{listed, filled, counted, Best};
-ghost use Rattle.matching.specs.Steps.Settling.{Ready};
+ghost use Rattle.matching.specs.Steps.Settling.{Ready, Entries};
 ghost use Rattle.matching.specs.Steps.Turning.{viewed, flip};
-ghost use Rattle.matching.specs.Steps.Listing.{Faces, shownRows, stored};
+ghost use Rattle.matching.specs.Steps.Listing.{Faces, Room, shownRows, stored};
 
 // The pattern as it is searched: from the end where mirrored.
 fn faced(pattern: Pattern, mirrored: bool) -> Pattern
@@ -50,7 +50,7 @@ fn count_rows(g: Pattern, text: &[u16], mirrored: bool) -> usize
 
 // Writes the rows that search after search finds, and says how many there are.
 fn write_rows(g: Pattern, text: &[u16], mirrored: bool, list: &mut [u16]) -> usize
-    requires { ⌜ Ready g (length (now text)) ⌝ ∗ ⌜ length (leftmostIn g (viewed mirrored g (now text))) * g .count ≤ length (now list) ⌝ }
+    requires { ⌜ Room g mirrored (now text) (now list) ⌝ }
     ensures { λ r. ⌜ (r ≡ length (leftmostIn g (viewed mirrored g (now (text .entry))))) × (r ≤ 20000) ⌝ }
     ensures { λ _. ⌜ now (list .exit) ≡ written (g .count) (leftmostIn g (viewed mirrored g (now (text .entry)))) (now (list .entry)) ⌝ }
 {
@@ -71,7 +71,7 @@ fn write_rows(g: Pattern, text: &[u16], mirrored: bool, list: &mut [u16]) -> usi
 
 // Turns the first `size` entries round, each a place counted from the other end of a text of n words.
 fn turn_back(list: &mut [u16], size: usize, n: usize)
-    requires { ⌜ (size ≤ length (now list)) × (n ≤ 20000) ⌝ }
+    requires { ⌜ Entries size n (now list) ⌝ }
     ensures { λ _. ⌜ now (list .exit) ≡ flip n (take size (now (list .entry))) ++ drop size (now (list .entry)) ⌝ }
 {
     let mut i: usize = 0;
@@ -89,7 +89,7 @@ fn turn_back(list: &mut [u16], size: usize, n: usize)
 
 // Writes the list where its rows have room.
 fn store(g: Pattern, text: &[u16], mirrored: bool, list: &mut [u16]) -> Listed
-    requires { ⌜ Ready g (length (now text)) ⌝ ∗ ⌜ length (leftmostIn g (viewed mirrored g (now text))) * g .count ≤ length (now list) ⌝ }
+    requires { ⌜ Room g mirrored (now text) (now list) ⌝ }
     ensures { λ r. ⌜ r ≡ Listed.Rows (length (leftmostIn g (viewed mirrored g (now (text .entry))))) ⌝ }
     ensures { λ _. ⌜ now (list .exit) ≡ written (g .count) (shownRows mirrored (length (now (text .entry))) (leftmostIn g (viewed mirrored g (now (text .entry))))) (now (list .entry)) ⌝ }
 {

@@ -45,7 +45,7 @@ mul-if1 : tie.Need-mul-if1
 mul-if1 c = let a = ok ((c .before)) in omega (arith, products-fit (a .short) (a .few))
 
 store-requires : tie.Need-store-requires
-store-requires c κs = (faces-ready (ok ((c .before .before .before))) (c .before .before .before .before .before .before .before .before .args .mirrored) (c .before .before .faced .ensures), room ((c .before)))
+store-requires c κs = record { ready = faces-ready (ok ((c .before .before .before))) (c .before .before .before .before .before .before .before .before .args .mirrored) (c .before .before .faced .ensures); rows = room ((c .before)) }
 
 same-length : tie.Need-same-length
 same-length c = search needs
@@ -63,7 +63,7 @@ returns-3 : tie.Need-returns-3
 returns-3 c = let a = ok ((c .before .before .before .before)) in let v = sym (c .before .before .before .before .before .before .check-with .ensures) ∙ c .before .before .before .before .enum-told .given .1 in simp v (listed-short (c .before .before .before .before .before .before .before .before .before .args .mirrored) (c .before .before .before .before .before .before .before .before .before .args .text .now) (c .before .before .before .before .before .before .before .before .before .args .list .now) a (c .before .before .before .faced .ensures) (c .before .count-rows .ensures .0) (c .if2 .taken), filled-short (c .before .before .before .before .before .before .before .before .before .args .mirrored) (c .before .before .before .before .before .before .before .before .before .args .text .now) (c .before .before .before .before .before .before .before .before .before .args .list .now) a (c .before .before .before .faced .ensures) (c .before .count-rows .ensures .0) (c .if2 .taken))
 
 store-requires-2 : tie.Need-store-requires-2
-store-requires-2 c κs = (faces-ready (ok ((c .before .before .before .before .before))) (c .before .before .before .before .before .before .before .before .before .before .args .mirrored) (c .before .before .before .before .faced .ensures), room-2 ((c .before)))
+store-requires-2 c κs = record { ready = faces-ready (ok ((c .before .before .before .before .before))) (c .before .before .before .before .before .before .before .before .before .before .args .mirrored) (c .before .before .before .before .faced .ensures); rows = room-2 ((c .before)) }
 
 same-length-2 : tie.Need-same-length-2
 same-length-2 c = search needs

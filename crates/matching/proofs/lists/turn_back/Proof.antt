@@ -75,13 +75,13 @@ loop-less : tie.Need-loop-less Inv-loop μ-loop
 loop-less c = omega (arith, c .before .before .before .before .before .before .loop-test .taken)
 
 loop-again : tie.Need-loop-again Inv-loop μ-loop
-loop-again c = swapped-more (c .before .before .before .before .before .before .before .loop .inv) (c .before .before .before .before .before .before .before .before .before .pre .0) (c .before .before .before .before .before .before .loop-test .taken) (c .before .before .before .minus .ensures ∙ ap (λ (v : ℕ). c .before .before .before .before .before .before .before .before .before .args .n + 1 - v) (c .before .before .before .before .wide .ensures .0)) (c .minus2 .ensures ∙ ap (λ (v : ℕ). c .before .before .before .before .before .before .before .before .before .args .n + 1 - v) (c .before .wide2 .ensures .0))
+loop-again c = swapped-more (c .before .before .before .before .before .before .before .loop .inv) (c .before .before .before .before .before .before .before .before .before .pre .inside) (c .before .before .before .before .before .before .loop-test .taken) (c .before .before .before .minus .ensures ∙ ap (λ (v : ℕ). c .before .before .before .before .before .before .before .before .before .args .n + 1 - v) (c .before .before .before .before .wide .ensures .0)) (c .minus2 .ensures ∙ ap (λ (v : ℕ). c .before .before .before .before .before .before .before .before .before .args .n + 1 - v) (c .before .wide2 .ensures .0))
 
 same-length : tie.Need-same-length Inv-loop μ-loop
 same-length c = c .before .loop .inv .long
 
 returns : tie.Need-returns Inv-loop μ-loop
-returns c = swapped-all (c .before .loop .inv) (c .before .before .before .pre .0) (c .loop-test .left)
+returns c = swapped-all (c .before .loop .inv) (c .before .before .before .pre .inside) (c .loop-test .left)
 
 pub turn-back-spec : {M : Type 1} → statement M
 turn-back-spec =
