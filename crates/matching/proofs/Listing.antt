@@ -10,8 +10,10 @@ use lib.Seq.{take-at, drop-at}
 use borrow.Author.Tests.{lt-ltb, le-ltb}
 use Rattle.pattern.specs.declared.Pattern.{Pattern}
 use Rattle.pattern.specs.declared.refusal.Refusal.the-variants.{ListLength}
+use Rattle.pattern.specs.declared.refusal.Verdict.{Verdict}
 use Rattle.pattern.specs.declared.refusal.Verdict.the-variants.{Accepted}
 use Rattle.pattern.specs.Laws.Accepting.{input-accepted}
+use Rattle.matching.specs.declared.rows.Listed.{Listed}
 use Rattle.matching.specs.declared.rows.Listed.the-variants.{Rows, Refused}
 use Rattle.matching.specs.Collections.{Every}
 use Rattle.matching.specs.Occurrence.{View, plain}
@@ -31,14 +33,6 @@ use Rattle.matching.specs.Laws.Mirror.{front-back-list}
 use Rattle.matching.specs.Laws.Turning.{turned-facing, turned-ready}
 use Rattle.matching.proofs.Writing.{length-flat}
 use Rattle.matching.proofs.Reversing.{flat-reversed}
-
--- ---- room
-
--- a list with an entry for each word and slot has room for them
-pub room-always : (g : Pattern) (b : Bool) (t : List ℕ) {m size : ℕ} → g .count ≡ m → length t * m ≤ size → length (leftmostIn g (viewed b g t)) * g .count ≤ size
-room-always g b t {m} e h =
-    let k = mul-le-mul-right {m = length (leftmostIn g (viewed b g t))} {n = length t} m (omega (arith, leftmost-length g (viewed b g t))) in
-    omega (arith, ap (λ (x : ℕ). length (leftmostIn g (viewed b g t)) * x) e)
 
 -- ---- the rows turned round
 
@@ -85,11 +79,25 @@ module _ {g : Pattern} {b : Bool} {t l : List ℕ} (R : Room g b t l) {rows : �
       turned-written g (viewed b g t) (R .ready .some) (length t) rows l N W T ∙ ap (λ (x : List (List ℕ)). written (g .count) x l) (sym (shown-back b e (length t) F)),
     )
 
--- ---- what was found is the front list or the back list
+-- ---- the pattern as it is searched
 
 pub faces-ready : {f g : Pattern} {n : ℕ} → Ready f n → (b : Bool) → Faces b f g → Ready g n
 faces-ready ok true F = turned-ready (F .back refl) ok
 faces-ready ok false F = rw (F .on refl) ok
+
+module _ {b : Bool} {f g : Pattern} {t : List ℕ} (ok : Ready f (length t)) (F : Faces b f g) (l : List ℕ) where
+  -- a list with an entry for each word and slot has room for every row
+  pub room-always : length t * f .count ≤ length l → Room g b t l
+  room-always h =
+      let rows = length (leftmostIn g (viewed b g t)) in
+      let k = mul-le-mul-right {m = rows} {n = length t} (f .count) (omega (arith, leftmost-length g (viewed b g t))) in
+      record { ready = faces-ready ok b F; rows = omega (arith, ap (λ (x : ℕ). rows * x) (F .count)) }
+
+  pub room-counted : {rows : ℕ} → rows ≡ length (leftmostIn g (viewed b g t)) → rows * f .count ≤ length l → Room g b t l
+  room-counted {rows} e h =
+      record { ready = faces-ready ok b F; rows = omega (arith, ap (λ (x : ℕ). x * f .count) e, ap (λ (x : ℕ). length (leftmostIn g (viewed b g t)) * x) (F .count)) }
+
+-- ---- what was found is the front list or the back list
 
 module _ {f g : Pattern} (t : List ℕ) (ok : Ready f (length t)) where
   faces-list : (b : Bool) → Faces b f g → shownRows b (length t) (leftmostIn g (viewed b g t)) ≡ stored b f t
@@ -117,23 +125,32 @@ module _ (b : Bool) {f g : Pattern} (t l : List ℕ) (ok : Ready f (length t)) (
   product : {rows : ℕ} → rows ≡ found → rows * f .count ≡ N * f .count
   product e = ap (λ (x : ℕ). x * f .count) (e ∙ found-is)
 
-  pub listed-short : {rows : ℕ} → rows ≡ found → length l < rows * f .count → Refused (ListLength rows) ≡ listed Accepted (f .count) (stored b f t) (length l)
+  listed-short : {rows : ℕ} → rows ≡ found → length l < rows * f .count → Refused (ListLength rows) ≡ listed Accepted (f .count) (stored b f t) (length l)
   listed-short {rows} e k = rw (lt-ltb (length l) (N * f .count) (omega (arith, product e)), e ∙ found-is)
 
-  pub filled-short : {rows : ℕ} → rows ≡ found → length l < rows * f .count → l ≡ filled Accepted (f .count) (stored b f t) l
+  filled-short : {rows : ℕ} → rows ≡ found → length l < rows * f .count → l ≡ filled Accepted (f .count) (stored b f t) l
   filled-short e k = rw (lt-ltb (length l) (N * f .count) (omega (arith, product e)))
 
   module _ (room : found * g .count ≤ length l) where
     fits : N * f .count ≤ length l
     fits = omega (arith, product {rows = found} refl, ap (λ (x : ℕ). found * x) (F .count))
 
-    pub listed-done : Rows found ≡ listed Accepted (f .count) (stored b f t) (length l)
+    listed-done : Rows found ≡ listed Accepted (f .count) (stored b f t) (length l)
     listed-done = rw (le-ltb (length l) (N * f .count) fits, found-is)
 
-    pub filled-done : {l′ : List ℕ} → l′ ≡ written (g .count) (shownRows b (length t) (leftmostIn g (viewed b g t))) l → l′ ≡ filled Accepted (f .count) (stored b f t) l
+    filled-done : {l′ : List ℕ} → l′ ≡ written (g .count) (shownRows b (length t) (leftmostIn g (viewed b g t))) l → l′ ≡ filled Accepted (f .count) (stored b f t) l
     filled-done q =
         rw (le-ltb (length l) (N * f .count) fits)
         (q ∙ ap (λ (x : ℕ). written x (shownRows b (length t) (leftmostIn g (viewed b g t))) l) (F .count) ∙ ap (λ (R : List (List ℕ)). written (f .count) R l) (faces-list t ok b F))
+
+  module _ {v : Verdict} (accepted : v ≡ Accepted) where
+    pub none-stored : {rows : ℕ} → rows ≡ found → length l < rows * f .count
+        → (Refused (ListLength rows) ≡ listed v (f .count) (stored b f t) (length l)) × (l ≡ filled v (f .count) (stored b f t) l)
+    none-stored e k = rw accepted (listed-short e k, filled-short e k)
+
+    pub all-stored : Room g b t l → {r : Listed} {l′ : List ℕ} → r ≡ Rows found → l′ ≡ written (g .count) (shownRows b (length t) (leftmostIn g (viewed b g t))) l
+        → (r ≡ listed v (f .count) (stored b f t) (length l)) × (l′ ≡ filled v (f .count) (stored b f t) l)
+    all-stored R e q = rw accepted (e ∙ listed-done (R .rows), filled-done (R .rows) q)
 
 -- ---- demand 3
 
