@@ -18,7 +18,7 @@ use Rattle.matching.specs.Steps.Settling.{Ready, Reported, Answered, Ans
 use Rattle.matching.specs.Steps.Turning.{flip, Flipped}
 use Rattle.matching.specs.Laws.Extremes.{earliest-some, earliest-none, latest-some, latest-none, earliest-same, latest-same}
 use Rattle.matching.specs.Laws.Mirror.{length-flip, Opposite, flip-opposite, Facing, nearest-back, none-back}
-use Rattle.matching.specs.Laws.Ready.{ready, RowAccepted}
+use Rattle.matching.specs.Laws.Ready.{RowAccepted}
 
 -- ---- the marks as a row
 

@@ -1,7 +1,10 @@
 -- `count_rows` meets its contract. The invariant: the k rows found so far are where the greedy list begins.
 use native.Mathlib.Omega.{arith}
-use Prim.Native.Nat.{_-_}
-use Rattle.matching.specs.Occurrence.{at}
+use Prim.Native.Nat.{_-_, _≤_}
+use Rattle.pattern.specs.declared.Pattern.{Pattern}
+use Rattle.matching.specs.Occurrence.{View, at}
+use Rattle.matching.specs.Steps.Layout.{Plan}
+use Rattle.matching.specs.Steps.Settling.{Ready, Answered}
 use Rattle.matching.specs.Steps.Turning.{viewed}
 use Rattle.matching.proofs.Laying.{plan}
 use Rattle.matching.proofs.Finding.{Counted, counted-begin, counted-end, counted-few, counted-less, counted-more}
@@ -15,11 +18,53 @@ Inv-loop g text mirrored layout row₀ k₀ row k = Counted g (viewed mirrored g
 abbrev μ-loop : tie.MeasureT-loop
 μ-loop g text mirrored layout row₀ k₀ row k = 20001 - at row 0
 
+-- ---- the places of the body
+
+abbrev start : tie.After-lay-out Inv-loop μ-loop → tie.Start Inv-loop μ-loop
+start c = c .before .before
+
+abbrev lay-out-at : tie.At-loop Inv-loop μ-loop → tie.After-lay-out Inv-loop μ-loop
+lay-out-at c = c .before
+
+abbrev loop-at : tie.After-last Inv-loop μ-loop → tie.At-loop Inv-loop μ-loop
+loop-at c = c .before .before
+
+abbrev advance-at : tie.After-last2 Inv-loop μ-loop → tie.After-advance Inv-loop μ-loop
+advance-at c = c .before
+
+abbrev turn-at : tie.After-last2 Inv-loop μ-loop → tie.At-loop Inv-loop μ-loop
+turn-at c = loop-at (advance-at c .before)
+
+-- ---- at the loop: the pattern, the text as it is read, and that it can be searched
+
+abbrev g : tie.At-loop Inv-loop μ-loop → Pattern
+g c = start (lay-out-at c) .args .g
+
+abbrev u : tie.At-loop Inv-loop μ-loop → View
+u c = viewed (start (lay-out-at c) .args .mirrored) (g c) (start (lay-out-at c) .args .text .now)
+
+abbrev ok : (c : tie.At-loop Inv-loop μ-loop) → Ready (g c) (u c .places)
+ok c = start (lay-out-at c) .pre
+
+abbrev plan-at : (c : tie.At-loop Inv-loop μ-loop) → Plan (u c .places) (g c .count) (g c .least) (g c .most) (lay-out-at c .lay-out .result)
+plan-at c = plan (ok c) (lay-out-at c .lay-out .ensures)
+
+-- no more rows than words
+few : (c : tie.At-loop Inv-loop μ-loop) → c .loop .k ≤ 20000
+few c = counted-few (c .loop .inv) (ok c)
+
+-- what the search answers
+abbrev searched : (c : tie.After-last2 Inv-loop μ-loop)
+    → Answered (g (turn-at c)) (u (turn-at c)) (turn-at c .loop .last) (record { found = advance-at c .advance .result; places = advance-at c .advance .last .1 .1 .1 .1 .1 .1 .0 })
+searched c = advance-at c .advance .ensures (plan-at (turn-at c))
+
+-- ----
+
 lay-out-requires : tie.Need-lay-out-requires Inv-loop μ-loop
-lay-out-requires c κs = (c .before .pre) .few
+lay-out-requires c κs = search needs
 
 loop-holds : tie.Need-loop-holds Inv-loop μ-loop
-loop-holds c = counted-begin ((c .before .before .args) .g) (viewed ((c .before .before .args) .mirrored) ((c .before .before .args) .g) ((c .before .before .args) .text .now)) ((c .before .before .pre) .few)
+loop-holds c = counted-begin _ _ (start c .pre .few)
 
 slice-aggregate-advance : tie.Need-slice-aggregate-advance Inv-loop μ-loop
 slice-aggregate-advance c = search needs
@@ -28,19 +73,19 @@ slice-aggregate-advance-2 : tie.Need-slice-aggregate-advance-2 Inv-loop μ-loop
 slice-aggregate-advance-2 c = search needs
 
 advance-requires : tie.Need-advance-requires Inv-loop μ-loop
-advance-requires c κs = record { plan = plan (c .before .before .before .before .before .pre) ((c .before .before .before .lay-out) .ensures); spare = (c .before .before .loop) .inv .spare }
+advance-requires c κs = record { plan = plan-at (loop-at c); spare = loop-at c .loop .inv .spare }
 
 add-k : tie.Need-add-k Inv-loop μ-loop
-add-k c = omega (arith, counted-few ((c .before .before .before .before .before .loop) .inv) (c .before .before .before .before .before .before .before .before .pre))
+add-k c = omega (arith, few (turn-at (c .before)))
 
 loop-less : tie.Need-loop-less Inv-loop μ-loop
-loop-less c = counted-less ((c .before .before .before .before .before .loop) .inv) (c .before .before .before .before .before .before .before .before .pre) ((c .before .before .advance) .ensures (plan (c .before .before .before .before .before .before .before .before .pre) ((c .before .before .before .before .before .before .lay-out) .ensures))) ((c .if1) .taken)
+loop-less c = let l = turn-at (c .before) in counted-less (l .loop .inv) (ok l) (searched (c .before)) (c .if1 .taken)
 
 loop-again : tie.Need-loop-again Inv-loop μ-loop
-loop-again c = counted-more ((c .before .before .before .before .before .loop) .inv) (c .before .before .before .before .before .before .before .before .pre) ((c .before .before .advance) .ensures (plan (c .before .before .before .before .before .before .before .before .pre) ((c .before .before .before .before .before .before .lay-out) .ensures))) ((c .if1) .taken)
+loop-again c = let l = turn-at (c .before) in counted-more (l .loop .inv) (ok l) (searched (c .before)) (c .if1 .taken)
 
 returns : tie.Need-returns Inv-loop μ-loop
-returns c = (counted-end ((c .before .before .before .before .before .loop) .inv) (c .before .before .before .before .before .before .before .before .pre) ((c .before .before .advance) .ensures (plan (c .before .before .before .before .before .before .before .before .pre) ((c .before .before .before .before .before .before .lay-out) .ensures))) ((c .if1) .left), counted-few ((c .before .before .before .before .before .loop) .inv) (c .before .before .before .before .before .before .before .before .pre))
+returns c = let l = turn-at (c .before) in (counted-end (l .loop .inv) (ok l) (searched (c .before)) (c .if1 .left), few l)
 
 pub count-rows-spec : {M : Type 1} → statement M
 count-rows-spec =

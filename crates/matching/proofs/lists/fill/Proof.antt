@@ -71,13 +71,14 @@ g c = c .faced .result
 abbrev faces : (c : tie.After-faced) → Faces (b (accepted-at c)) (f (accepted-at c)) (g c)
 faces c = c .faced .ensures
 
--- as many rows as words have room
-room : (c : tie.Then1) → Room (g (c .before)) (b (accepted-at (c .before))) (t (accepted-at (c .before))) (l (accepted-at (c .before)))
+-- every row that is found has room
+abbrev HasRoom : tie.After-faced → Type 0
+HasRoom c = Room (g c) (b (accepted-at c)) (t (accepted-at c)) (l (accepted-at c))
+
+room : (c : tie.Then1) → HasRoom (c .before)
 room c = let a = accepted-at (c .before) in room-always (ok a) (faces (c .before)) (l a) (c .if1 .taken)
 
--- the counted rows have room
-room-2 : (c : tie.Else2)
-    → Room (g (faced-at (c .before))) (b (accepted-at (faced-at (c .before)))) (t (accepted-at (faced-at (c .before)))) (l (accepted-at (faced-at (c .before))))
+room-2 : (c : tie.Else2) → HasRoom (faced-at (c .before))
 room-2 c =
     let d = faced-at (c .before) in
     let a = accepted-at d in

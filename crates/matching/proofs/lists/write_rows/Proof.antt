@@ -164,8 +164,7 @@ same-length c = turn-at (c .before) .loop .inv .size
 returns : tie.Need-returns Inv-loop μ-loop
 returns c =
     let l = turn-at (c .before) in
-    let none = searched (c .before) in
-    (
+    let none = searched (c .before) in (
       (counted-end (l .loop .inv .counted) (given l .ready) none (c .if1 .left), few l),
       writing-all (l .loop .inv) (given l .ready) none (c .if1 .left),
     )

@@ -1,24 +1,29 @@
 -- `flipped` meets its contract. The invariant: the first j places are those of the row from its end.
 use native.Mathlib.Omega.{arith}
-use Prim.Native.Nat.{ℕ, _+_, _≤_, _<_, _-_}
-use mathlib.Core.Path.{_≡_, _∙_, ap}
-use lib.ListN.{length}
-use borrow.Author.Count.{below-none}
+use Prim.Native.Nat.{_-_}
 use borrow.Author.Needs.{needs}
-use Rattle.matching.proofs.Turning.{place-more}
-use Rattle.pattern.specs.Laws.Arrays.{zeros-at, set-rest}
-use Rattle.matching.specs.Occurrence.{at}
+use Rattle.matching.proofs.Turning.{Flipping, flipping-begin, flipping-more, flipping-end}
 use Rattle.matching.proofs.mirror.flipped.Statement.{statement}
 use Rattle.matching.proofs.mirror.flipped.Tie as tie
 
 abbrev Inv-loop : tie.InvT-loop
-Inv-loop m n row p₀ j₀ p j = (j ≤ m) × (length p ≡ 16) × ((k : ℕ) → k < j → (i : ℕ) → i + k + 1 ≡ m → at p k ≡ n + 1 - at row i) × ((k : ℕ) → j ≤ k → at p k ≡ 0)
+Inv-loop m n row p₀ j₀ p j = Flipping m n row p j
 
 abbrev μ-loop : tie.MeasureT-loop
 μ-loop m n row p₀ j₀ p j = m - j
 
+-- ---- the places of the body
+
+abbrev test-at : tie.After-minus Inv-loop μ-loop → tie.In-loop Inv-loop μ-loop
+test-at c = c .before .before
+
+abbrev loop-at : tie.After-minus Inv-loop μ-loop → tie.At-loop Inv-loop μ-loop
+loop-at c = test-at c .before
+
+-- ----
+
 loop-holds : tie.Need-loop-holds Inv-loop μ-loop
-loop-holds c = (search needs, search needs, below-none _, λ k _. zeros-at 16 k)
+loop-holds c = flipping-begin _ _ _
 
 sub-i : tie.Need-sub-i Inv-loop μ-loop
 sub-i c = search needs
@@ -57,10 +62,10 @@ loop-less : tie.Need-loop-less Inv-loop μ-loop
 loop-less c = search needs
 
 loop-again : tie.Need-loop-again Inv-loop μ-loop
-loop-again c = let a = c .before .before .before .before .args in let l = c .before .before .before .loop in let z : l .j < length (l .p) = omega arith in (search needs, search needs, place-more (a .n) (a .m) (a .t1) (l .p) (l .j) _ z (c .before .before .loop-test .taken) (c .minus .ensures ∙ ap (λ (x : ℕ). a .n + 1 - x) (c .before .wide .ensures .0)) (l .inv .2), set-rest (l .p) (l .j) _ (l .inv .3))
+loop-again c = flipping-more (loop-at c .loop .inv) (test-at c .loop-test .taken) (omega arith) (omega (arith, c .minus .ensures, c .before .wide .ensures .0))
 
 returns : tie.Need-returns Inv-loop μ-loop
-returns c = record { size = c .before .loop .inv .1; turn = λ i k e. c .before .loop .inv .2 k (omega arith) i e; rest = λ k h. c .before .loop .inv .3 k (omega arith) }
+returns c = flipping-end (c .before .loop .inv) (c .loop-test .left)
 
 pub flipped-spec : {M : Type 1} → statement M
 flipped-spec =
