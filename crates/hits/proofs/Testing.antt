@@ -1,17 +1,17 @@
 -- The test of a row, condition by condition. Assumes nothing.
-use Prim.Native.Nat.{ℕ, _+_, _-_, _≤_, _<_}
+use Prim.Native.Nat.{ℕ, _+_, _-_}
 use native.Mathlib.Omega.{arith}
-use mathlib.Core.Bool.{true, false, true≢false, false≢true}
+use mathlib.Core.Bool.{Bool, true, false, true≢false, false≢true}
 use mathlib.Core.List.{List}
 use mathlib.Core.Path.{_≡_}
 use lib.ListN.{length}
-use borrow.Author.Count.{below-more}
+use Rattle.pattern.specs.declared.slot.Slot.{Slot}
 use Rattle.pattern.specs.declared.Pattern.{Pattern}
-use Rattle.pattern.specs.Patterns.{slotAt}
 use Rattle.pattern.specs.Laws.Accepting.{is-false}
 use Rattle.matching.specs.Occurrence.{plain, at}
 use Rattle.matching.specs.Occurrences.{occurs}
-use Rattle.hits.specs.Steps.{Decides, PlaceFits, GapFits, SpanFits, WordsFit, GapsFit}
+use Rattle.hits.specs.Steps.{Decides, Sized, PlaceFits, GapFits, SpanFits, WordsFit, GapsFit}
+use Rattle.matching.specs.Laws.Ready.{RowAccepted}
 use Rattle.matching.specs.Laws.Tests.{occurs-iff}
 
 pub decides-true : {P : Type 0} → P → Decides true P
@@ -19,6 +19,20 @@ decides-true p = record { yes = λ _. p; no = λ e. absurd (true≢false e) }
 
 pub decides-false : {P : Type 0} → (P → ⊥) → Decides false P
 decides-false n = record { yes = λ e. absurd (false≢true e); no = λ _ p. n p }
+
+-- the same test of equal numbers
+pub place-same : {b : Bool} {s : Slot} {t : List ℕ} {p q : ℕ} → p ≡ q → Decides b (PlaceFits s t p) → Decides b (PlaceFits s t q)
+place-same e d = rw e at d
+
+pub gap-same : {b : Bool} {x y low high x′ y′ low′ high′ : ℕ} → x ≡ x′ → y ≡ y′ → low ≡ low′ → high ≡ high′ → Decides b (GapFits x y low high) → Decides b (GapFits x′ y′ low′ high′)
+gap-same e1 e2 e3 e4 d = rw (e1, e2, e3, e4) at d
+
+pub span-same : {b : Bool} {x y least most x′ y′ least′ most′ : ℕ} → x ≡ x′ → y ≡ y′ → least ≡ least′ → most ≡ most′
+    → Decides b (SpanFits x y least most) → Decides b (SpanFits x′ y′ least′ most′)
+span-same e1 e2 e3 e4 d = rw (e1, e2, e3, e4) at d
+
+pub sized : {f : Pattern} {t r : List ℕ} → RowAccepted f t r → Sized f r
+sized a = record { few = a .ready .few; size = a .size }
 
 module _ (f : Pattern) (t r : List ℕ) where
   pub no-words : (WordsFit f t r → ⊥) → occurs f t r ≡ false
@@ -40,13 +54,3 @@ module _ (f : Pattern) (t r : List ℕ) where
     gap = λ j h. let g = gaps (j + 1) h (omega arith) in let z : j + 1 - 1 ≡ j = omega arith in (rw z at (g .least), rw z at (g .most));
     span = (span .low, span .high);
   })
-
--- one slot more passes, or does not
-pub words-more : (f : Pattern) (t r : List ℕ) (j : ℕ) {p : ℕ} → p ≡ at r j → ((k : ℕ) → k < j → PlaceFits (slotAt f k) t (at r k))
-    → PlaceFits (slotAt f j) t p → (k : ℕ) → k < j + 1 → PlaceFits (slotAt f k) t (at r k)
-words-more f t r j e before here = below-more _ j before (rw e at here)
-
-pub gaps-more : (f : Pattern) (r : List ℕ) (j : ℕ) {a b low high : ℕ} → a ≡ at r (j - 1) → b ≡ at r j → low ≡ slotAt f j .low → high ≡ slotAt f j .high
-    → ((k : ℕ) → k < j → 1 ≤ k → GapFits (at r (k - 1)) (at r k) (slotAt f k .low) (slotAt f k .high)) → GapFits a b low high
-    → (k : ℕ) → k < j + 1 → 1 ≤ k → GapFits (at r (k - 1)) (at r k) (slotAt f k .low) (slotAt f k .high)
-gaps-more f r j e1 e2 e3 e4 before here = below-more _ j before (λ _. rw (e1, e2, e3, e4) at here)

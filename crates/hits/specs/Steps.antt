@@ -14,6 +14,11 @@ pub record Decides (b : Bool) (P : Type 0) : Type 0 where
   pub yes : b ≡ true → P
   pub no : b ≡ false → P → ⊥
 
+-- the row has a place for each slot of the pattern, which has no more than 16
+pub record Sized (f : Pattern) (row : List ℕ) : Type 0 where
+  pub few : f .count ≤ 16
+  pub size : length row ≡ f .count
+
 -- the place is in the text, and its word one that the slot takes
 pub record PlaceFits (s : Slot) (t : List ℕ) (p : ℕ) : Type 0 where
   pub low : 1 ≤ p

@@ -5,10 +5,9 @@ use pattern::Refusal;
 use pattern::Slot;
 use pattern::Verdict;
 ghost use mathlib.Core.Path.{_≡_};
-ghost use Prim.Native.Nat.{_+_, _*_, _≤_, _<_};
-ghost use lib.ListN.{length};
+ghost use Prim.Native.Nat.{_+_, _*_, _<_};
 ghost use Rattle.hits.specs.Answers.{isOccurrence, excerptOf, excerptStart};
-ghost use Rattle.hits.specs.Steps.{Decides, PlaceFits, GapFits, SpanFits, WordsFit, GapsFit};
+ghost use Rattle.hits.specs.Steps.{Decides, Sized, PlaceFits, GapFits, SpanFits, WordsFit, GapsFit};
 
 // Whether a row is an occurrence, or why it is not tested.
 pub enum Tested {
@@ -40,7 +39,7 @@ fn place_fits(slot: Slot, text: &[u16], place: usize) -> bool
 
 // Whether each place of the row is in the text and fits its slot.
 fn words_fit(pattern: Pattern, text: &[u16], row: &[u16]) -> bool
-    requires { ⌜ (pattern .count ≤ 16) × (length (now row) ≡ pattern .count) ⌝ }
+    requires { ⌜ Sized pattern (now row) ⌝ }
     ensures { λ r. ⌜ Decides r (WordsFit pattern (now (text .entry)) (now (row .entry))) ⌝ }
 {
     let m = pattern.count;
@@ -72,7 +71,7 @@ fn gap_fits(a: usize, b: usize, low: usize, high: usize) -> bool
 
 // Whether each gap of the row is within its limits.
 fn gaps_fit(pattern: Pattern, row: &[u16]) -> bool
-    requires { ⌜ (pattern .count ≤ 16) × (length (now row) ≡ pattern .count) ⌝ }
+    requires { ⌜ Sized pattern (now row) ⌝ }
     ensures { λ r. ⌜ Decides r (GapsFit pattern (now (row .entry))) ⌝ }
 {
     let m = pattern.count;

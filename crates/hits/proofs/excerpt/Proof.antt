@@ -1,14 +1,59 @@
 -- `hits::excerpt` meets its contract: an occurrence's first and last place are places of the text, in order.
 use native.Mathlib.Omega.{arith}
-use mathlib.Core.Path.{refl, sym, _∙_}
-use Rattle.hits.specs.Answers.{excerptOf, excerptStart}
+use Prim.Native.Nat.{ℕ, _≤_}
+use mathlib.Core.List.{List}
+use mathlib.Core.Path.{_≡_, refl, sym, _∙_}
+use lib.ListN.{length}
 use borrow.Author.Needs.{needs}
+use Rattle.pattern.specs.declared.Pattern.{Pattern}
+use Rattle.hits.specs.declared.Tested.the-variants.{Yes}
+use Rattle.hits.specs.Answers.{isOccurrence, excerptOf, excerptStart}
 use Rattle.hits.specs.Laws.Excerpts.{Hit, hit, hit-first, hit-order, hit-last}
 use Rattle.hits.proofs.excerpt.Statement.{statement}
 use Rattle.hits.proofs.excerpt.Tie as tie
 
-found : (c : tie.After-enum-told) → Hit (c .before .before .before .before .before .args .pattern) (c .before .before .before .before .before .args .text .now) (c .before .before .before .before .before .args .row .now)
-found c = hit (c .before .before .before .before .before .args .pattern) (c .before .before .before .before .before .args .text .now) (c .before .before .before .before .before .args .row .now) (sym (c .before .before .is-occurrence .ensures) ∙ c .enum-told .given .1)
+-- ---- the places of the body
+
+abbrev tested-at : tie.After-enum-told → tie.After-is-occurrence
+tested-at c = c .before .before
+
+abbrev start : tie.After-enum-told → tie.Start
+start c = tested-at c .before .before .before
+
+abbrev yes-at : tie.After-wide → tie.After-enum-told
+yes-at c = c .before .before .before
+
+abbrev first-at : tie.After-wide2 → tie.After-wide
+first-at c = c .before .before
+
+-- ---- the row is an occurrence of the pattern in the text
+
+abbrev f : tie.After-enum-told → Pattern
+f c = start c .args .pattern
+
+abbrev t : tie.After-enum-told → List ℕ
+t c = start c .args .text .now
+
+abbrev r : tie.After-enum-told → List ℕ
+r c = start c .args .row .now
+
+answer-is : (c : tie.After-enum-told) → isOccurrence (f c) (t c) (r c) ≡ Yes
+answer-is c = sym (tested-at c .is-occurrence .ensures) ∙ c .enum-told .given .1
+
+found : (c : tie.After-enum-told) → Hit (f c) (t c) (r c)
+found c = hit (f c) (t c) (r c) (answer-is c)
+
+-- its first place and its last are places of the text, in order
+low : (c : tie.After-wide) → 1 ≤ c .wide .result
+low c = omega (arith, c .wide .ensures .0, hit-first (found (yes-at c)))
+
+ordered : (c : tie.After-wide2) → first-at c .wide .result ≤ c .wide2 .result
+ordered c = omega (arith, first-at c .wide .ensures .0, c .wide2 .ensures .0, hit-order (found (yes-at (first-at c))))
+
+high : (c : tie.After-wide2) → c .wide2 .result ≤ length (t (yes-at (first-at c)))
+high c = omega (arith, c .wide2 .ensures .0, hit-last (found (yes-at (first-at c))))
+
+-- ----
 
 is-occurrence-requires : tie.Need-is-occurrence-requires
 is-occurrence-requires c κs = search needs
@@ -49,41 +94,43 @@ unfolding excerptOf excerptStart
 returns-2 c = simp (sym (c .before .before .before .is-occurrence .ensures) ∙ c .before .enum-told3 .given .1) (refl, refl)
 
 sub-last : tie.Need-sub-last
-sub-last c = omega (arith, found ((c .before)) .accepted .ready .some)
+sub-last c = omega (arith, found (c .before) .accepted .ready .some)
 
 shared-slice-read-wide : tie.Need-shared-slice-read-wide
-shared-slice-read-wide c = let a = found ((c .before .before)) .accepted in omega (arith, a .ready .some, a .size)
+shared-slice-read-wide c = let a = found (c .before .before) .accepted in omega (arith, a .ready .some, a .size)
 
 wide-requires : tie.Need-wide-requires
 wide-requires c κs = search needs
 
 sub-a : tie.Need-sub-a
-sub-a c = omega (arith, c .wide .ensures .0, hit-first (found ((c .before .before .before))))
+sub-a c = omega (arith, low c)
 
 mul-wide : tie.Need-mul-wide
-mul-wide c = omega (arith, found ((c .before .before .before)) .accepted .ready .few)
+mul-wide c = omega (arith, found (yes-at c) .accepted .ready .few)
 
 shared-slice-read-wide-2 : tie.Need-shared-slice-read-wide-2
-shared-slice-read-wide-2 c = let a = found ((c .before .before .before .before)) .accepted in omega (arith, a .ready .some, a .size)
+shared-slice-read-wide-2 c = let a = found (yes-at (c .before)) .accepted in omega (arith, a .ready .some, a .size)
 
 wide-requires-2 : tie.Need-wide-requires-2
 wide-requires-2 c κs = search needs
 
 mul-result : tie.Need-mul-result
-mul-result c = omega (arith, c .before .before .wide .ensures, hit-first (found ((c .before .before .before .before .before))))
+mul-result c = omega (arith, first-at c .wide .ensures, low (first-at c))
 
 sub-result-3 : tie.Need-sub-result-3
-sub-result-3 c = omega (arith, c .before .before .wide .ensures .0, c .wide2 .ensures .0, hit-order (found ((c .before .before .before .before .before))))
+sub-result-3 c = omega (arith, low (first-at c), ordered c)
 
 part-result-start-3 : tie.Need-part-result-start-3
-part-result-start-3 c = omega (arith, c .before .before .wide .ensures .0, c .wide2 .ensures .0, hit-order (found ((c .before .before .before .before .before))))
+part-result-start-3 c = omega (arith, low (first-at c), ordered c)
 
 part-result-end-3 : tie.Need-part-result-end-3
-part-result-end-3 c = omega (arith, c .wide2 .ensures .0, hit-last (found ((c .before .before .before .before .before))))
+part-result-end-3 c = omega (arith, high c)
 
 returns-3 : tie.Need-returns-3
 unfolding excerptOf excerptStart
-returns-3 c = simp (sym (c .before .before .before .before .before .before .before .before .is-occurrence .ensures) ∙ c .before .before .before .before .before .before .enum-told .given .1, c .before .before .before .wide .ensures .0, c .before .wide2 .ensures .0) (refl, refl)
+returns-3 c =
+    let d = first-at (c .before) in
+    simp (answer-is (yes-at d), d .wide .ensures .0, c .before .wide2 .ensures .0) (refl, refl)
 
 pub excerpt-spec : {M : Type 1} → statement M
 excerpt-spec =

@@ -1,11 +1,12 @@
 -- `gaps_fit` meets its contract. The invariant: each gap before slot j fits.
 use native.Mathlib.Omega.{arith}
 use Prim.Native.Nat.{ℕ, _≤_, _<_, _-_}
+use borrow.Author.Count.{below-more}
 use borrow.Author.Tests.{not-true, not-false}
 use Rattle.pattern.specs.Patterns.{slotAt}
 use Rattle.matching.specs.Occurrence.{at}
-use Rattle.hits.specs.Steps.{GapFits}
-use Rattle.hits.proofs.Testing.{decides-true, decides-false, gaps-more}
+use Rattle.hits.specs.Steps.{Decides, GapFits}
+use Rattle.hits.proofs.Testing.{decides-true, decides-false, gap-same}
 use borrow.Author.Needs.{needs}
 use Rattle.hits.proofs.gaps_fit.Statement.{statement}
 use Rattle.hits.proofs.gaps_fit.Tie as tie
@@ -15,6 +16,35 @@ Inv-loop row pattern m j₀ j = (1 ≤ j) × ((k : ℕ) → k < j → 1 ≤ k �
 
 abbrev μ-loop : tie.MeasureT-loop
 μ-loop row pattern m j₀ j = m - j
+
+-- ---- the places of the body
+
+abbrev start : tie.At-loop Inv-loop μ-loop → tie.Start Inv-loop μ-loop
+start c = c .before .before
+
+abbrev low-at : tie.After-gap-fits Inv-loop μ-loop → tie.After-wide3 Inv-loop μ-loop
+low-at c = c .before .before
+
+abbrev own-at : tie.After-gap-fits Inv-loop μ-loop → tie.After-wide2 Inv-loop μ-loop
+own-at c = low-at c .before
+
+abbrev prior-at : tie.After-gap-fits Inv-loop μ-loop → tie.After-wide Inv-loop μ-loop
+prior-at c = own-at c .before .before
+
+abbrev test-at : tie.After-gap-fits Inv-loop μ-loop → tie.In-loop Inv-loop μ-loop
+test-at c = prior-at c .before .before .before
+
+abbrev loop-at : tie.After-gap-fits Inv-loop μ-loop → tie.At-loop Inv-loop μ-loop
+loop-at c = test-at c .before
+
+-- the gap before slot k of the row
+abbrev Gap : tie.At-loop Inv-loop μ-loop → ℕ → Type 0
+Gap c k = GapFits (at (start c .args .row .now) (k - 1)) (at (start c .args .row .now) k) (slotAt (start c .args .t1) k .low) (slotAt (start c .args .t1) k .high)
+
+decided : (c : tie.After-gap-fits Inv-loop μ-loop) → Decides (c .gap-fits .result) (Gap (loop-at c) (loop-at c .loop .j))
+decided c = gap-same (prior-at c .wide .ensures .0) (own-at c .wide2 .ensures .0) (low-at c .wide3 .ensures .0) (c .before .wide4 .ensures .0) (c .gap-fits .ensures)
+
+-- ----
 
 loop-holds : tie.Need-loop-holds Inv-loop μ-loop
 loop-holds c = (search needs, λ k h l. absurd (omega arith))
@@ -56,7 +86,9 @@ gap-fits-requires : tie.Need-gap-fits-requires Inv-loop μ-loop
 gap-fits-requires c κs = search needs
 
 returns : tie.Need-returns Inv-loop μ-loop
-returns c = decides-false (λ p. c .before .gap-fits .ensures .no (not-true _ (c .if1 .taken)) (rw (c .before .before .before .before .before .before .wide .ensures .0, c .before .before .before .before .wide2 .ensures .0, c .before .before .before .wide3 .ensures .0, c .before .before .wide4 .ensures .0) (p (c .before .before .before .before .before .before .before .before .before .before .loop .j) (c .before .before .before .before .before .before .before .before .before .loop-test .taken) (c .before .before .before .before .before .before .before .before .before .before .loop .inv .0))))
+returns c =
+    let l = loop-at (c .before) .loop in
+    decides-false (λ p. decided (c .before) .no (not-true _ (c .if1 .taken)) (p (l .j) (test-at (c .before) .loop-test .taken) (l .inv .0)))
 
 add-j : tie.Need-add-j Inv-loop μ-loop
 add-j c = search needs
@@ -65,7 +97,9 @@ loop-less : tie.Need-loop-less Inv-loop μ-loop
 loop-less c = search needs
 
 loop-again : tie.Need-loop-again Inv-loop μ-loop
-loop-again c = (search needs, gaps-more (c .before .before .before .before .before .before .before .before .before .before .before .before .args .t1) (c .before .before .before .before .before .before .before .before .before .before .before .before .args .row .now) (c .before .before .before .before .before .before .before .before .before .before .loop .j) (c .before .before .before .before .before .before .wide .ensures .0) (c .before .before .before .before .wide2 .ensures .0) (c .before .before .before .wide3 .ensures .0) (c .before .before .wide4 .ensures .0) (c .before .before .before .before .before .before .before .before .before .before .loop .inv .1) (c .before .gap-fits .ensures .yes (not-false _ (c .if1 .left))))
+loop-again c =
+    let l = loop-at (c .before) in
+    (search needs, below-more (λ k. 1 ≤ k → Gap l k) (l .loop .j) (l .loop .inv .1) (λ _. decided (c .before) .yes (not-false _ (c .if1 .left))))
 
 returns-2 : tie.Need-returns-2 Inv-loop μ-loop
 returns-2 c = decides-true (λ k h l. c .before .loop .inv .1 k (omega (arith, c .loop-test .left)) l)

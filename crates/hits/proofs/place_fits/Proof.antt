@@ -26,7 +26,12 @@ takes-requires : tie.Need-takes-requires
 takes-requires c κs = search needs
 
 returns-3 : tie.Need-returns-3
-returns-3 c = record { yes = λ e. record { low = omega (arith, c .before .before .before .if1 .left); high = omega (arith, c .before .before .if2 .left); word = sym (c .takes .ensures) ∙ e }; no = λ e p. true≢false (sym (p .word) ∙ sym (c .takes .ensures) ∙ e) }
+returns-3 c =
+    let in-text = c .before .before in
+    record {
+      yes = λ e. record { low = omega (arith, in-text .before .if1 .left); high = omega (arith, in-text .if2 .left); word = sym (c .takes .ensures) ∙ e };
+      no = λ e p. true≢false (sym (p .word) ∙ sym (c .takes .ensures) ∙ e);
+    }
 
 pub place-fits-spec : {M : Type 1} → statement M
 place-fits-spec =

@@ -1,12 +1,12 @@
 -- `words_fit` meets its contract. The invariant: each slot before j fits.
 use native.Mathlib.Omega.{arith}
 use Prim.Native.Nat.{ℕ, _≤_, _<_, _-_}
-use borrow.Author.Count.{below-none}
+use borrow.Author.Count.{below-none, below-more}
 use borrow.Author.Tests.{not-true, not-false}
 use Rattle.pattern.specs.Patterns.{slotAt}
 use Rattle.matching.specs.Occurrence.{at}
-use Rattle.hits.specs.Steps.{PlaceFits}
-use Rattle.hits.proofs.Testing.{decides-true, decides-false, words-more}
+use Rattle.hits.specs.Steps.{Decides, PlaceFits}
+use Rattle.hits.proofs.Testing.{decides-true, decides-false, place-same}
 use borrow.Author.Needs.{needs}
 use Rattle.hits.proofs.words_fit.Statement.{statement}
 use Rattle.hits.proofs.words_fit.Tie as tie
@@ -17,15 +17,25 @@ Inv-loop text row pattern m j₀ j = (j ≤ m) × ((k : ℕ) → k < j → Place
 abbrev μ-loop : tie.MeasureT-loop
 μ-loop text row pattern m j₀ j = m - j
 
--- the places of the body, from the call back
+-- ---- the places of the body
+
+abbrev start : tie.At-loop Inv-loop μ-loop → tie.Start Inv-loop μ-loop
+start c = c .before .before .before
+
 abbrev test-at : tie.After-place-fits Inv-loop μ-loop → tie.In-loop Inv-loop μ-loop
 test-at c = c .before .before .before .before
 
 abbrev loop-at : tie.After-place-fits Inv-loop μ-loop → tie.At-loop Inv-loop μ-loop
 loop-at c = test-at c .before
 
-abbrev start : tie.After-place-fits Inv-loop μ-loop → tie.Start Inv-loop μ-loop
-start c = loop-at c .before .before .before
+-- the place of slot k of the row
+abbrev Place : tie.At-loop Inv-loop μ-loop → ℕ → Type 0
+Place c k = PlaceFits (slotAt (start c .args .t1) k) (start c .args .text .now) (at (start c .args .row .now) k)
+
+decided : (c : tie.After-place-fits Inv-loop μ-loop) → Decides (c .place-fits .result) (Place (loop-at c) (loop-at c .loop .j))
+decided c = place-same (c .before .wide .ensures .0) (c .place-fits .ensures)
+
+-- ----
 
 loop-holds : tie.Need-loop-holds Inv-loop μ-loop
 loop-holds c = (search needs, below-none _)
@@ -49,7 +59,9 @@ place-fits-requires : tie.Need-place-fits-requires Inv-loop μ-loop
 place-fits-requires c κs = search needs
 
 returns : tie.Need-returns Inv-loop μ-loop
-returns c = decides-false (λ p. c .before .place-fits .ensures .no (not-true _ (c .if1 .taken)) (rw (c .before .before .wide .ensures .0) (p (loop-at (c .before) .loop .j) (test-at (c .before) .loop-test .taken))))
+returns c =
+    let b = c .before in
+    decides-false (λ p. decided b .no (not-true _ (c .if1 .taken)) (p (loop-at b .loop .j) (test-at b .loop-test .taken)))
 
 add-j : tie.Need-add-j Inv-loop μ-loop
 add-j c = search needs
@@ -59,9 +71,8 @@ loop-less c = search needs
 
 loop-again : tie.Need-loop-again Inv-loop μ-loop
 loop-again c =
-    let a = start (c .before) .args in
-    let l = loop-at (c .before) .loop in
-    (search needs, words-more (a .t1) (a .text .now) (a .row .now) (l .j) (c .before .before .wide .ensures .0) (l .inv .1) (c .before .place-fits .ensures .yes (not-false _ (c .if1 .left))))
+    let l = loop-at (c .before) in
+    (search needs, below-more (Place l) (l .loop .j) (l .loop .inv .1) (decided (c .before) .yes (not-false _ (c .if1 .left))))
 
 returns-2 : tie.Need-returns-2 Inv-loop μ-loop
 returns-2 c = decides-true (λ k h. c .before .loop .inv .1 k (omega (arith, c .loop-test .left)))
