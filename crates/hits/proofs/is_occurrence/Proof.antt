@@ -47,6 +47,12 @@ last-at c = least-at c .before
 abbrev first-at : tie.After-span-fits → tie.After-wide
 first-at c = last-at c .before .before
 
+abbrev passed-at : tie.Else2 → tie.After-enum-told
+passed-at c = accepted-at (words-fit-at c)
+
+abbrev tested-at : tie.After-span-fits → tie.After-enum-told
+tested-at c = passed-at (gaps-fit-at (first-at c))
+
 -- ---- what is accepted: the pattern, the text and the row
 
 abbrev f : tie.After-enum-told → Pattern
@@ -63,13 +69,6 @@ verdict-is c = sym (verdict-at c .row-verdict .ensures) ∙ c .enum-told .given 
 
 accepted : (c : tie.After-enum-told) → RowAccepted (f c) (t c) (r c)
 accepted c = row-accepted (verdict-is c)
-
--- also past the first two tests
-abbrev passed : (c : tie.Else2) → RowAccepted (f (accepted-at (words-fit-at c))) (t (accepted-at (words-fit-at c))) (r (accepted-at (words-fit-at c)))
-passed c = accepted (accepted-at (words-fit-at c))
-
-abbrev tested-at : tie.After-span-fits → tie.After-enum-told
-tested-at c = accepted-at (words-fit-at (gaps-fit-at (first-at c)))
 
 -- what the last test decides
 abbrev Span : tie.After-enum-told → Type 0
@@ -109,19 +108,19 @@ returns-3 c =
     simp (verdict-is a, no-gaps (f a) (t a) (r a) (c .before .gaps-fit .ensures .no (not-true _ (c .if2 .taken))))
 
 sub-last : tie.Need-sub-last
-sub-last c = omega (arith, passed (c .before) .ready .some)
+sub-last c = omega (arith, accepted (passed-at (c .before)) .ready .some)
 
 shared-slice-read-wide : tie.Need-shared-slice-read-wide
-shared-slice-read-wide c = let a = passed (c .before .before) in omega (arith, a .ready .some, a .size)
+shared-slice-read-wide c = let a = accepted (passed-at (c .before .before)) in omega (arith, a .ready .some, a .size)
 
 wide-requires : tie.Need-wide-requires
 wide-requires c κs = search needs
 
 mul-wide : tie.Need-mul-wide
-mul-wide c = omega (arith, passed (gaps-fit-at c) .ready .few)
+mul-wide c = omega (arith, accepted (passed-at (gaps-fit-at c)) .ready .few)
 
 shared-slice-read-wide-2 : tie.Need-shared-slice-read-wide-2
-shared-slice-read-wide-2 c = let a = passed (gaps-fit-at (c .before)) in omega (arith, a .ready .some, a .size)
+shared-slice-read-wide-2 c = let a = accepted (passed-at (gaps-fit-at (c .before))) in omega (arith, a .ready .some, a .size)
 
 wide-requires-2 : tie.Need-wide-requires-2
 wide-requires-2 c κs = search needs

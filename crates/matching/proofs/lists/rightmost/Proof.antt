@@ -4,6 +4,12 @@ use borrow.Author.Needs.{needs}
 use Rattle.matching.proofs.lists.rightmost.Statement.{statement}
 use Rattle.matching.proofs.lists.rightmost.Tie as tie
 
+abbrev fill-at : tie.After-slice-known2 → tie.After-fill
+fill-at c = c .before .before
+
+abbrev start : tie.After-slice-known2 → tie.Start
+start c = fill-at c .before .before .before .before
+
 fill-requires : tie.Need-fill-requires
 fill-requires c κs = search needs
 
@@ -11,7 +17,7 @@ same-length : tie.Need-same-length
 same-length c = search needs
 
 returns : tie.Need-returns
-returns c = (c .before .before .fill .ensures .0, (c .before .before .fill .ensures .1, best (c .before .before .before .before .before .before .args .pattern) (c .before .before .before .before .before .before .args .text .now)))
+returns c = (fill-at c .fill .ensures .0, (fill-at c .fill .ensures .1, best (start c .args .pattern) (start c .args .text .now)))
 
 pub rightmost-spec : {M : Type 1} → statement M
 rightmost-spec = tie.close (tie.spec fill-requires same-length returns)
