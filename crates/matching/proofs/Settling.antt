@@ -37,8 +37,20 @@ module _ {f : Pattern} {v : View} where
           rising = S .rising;
           slot = N .inside;
           within = omega arith;
-          near = λ i a b. elim (ℕ-discrete i j) [ yes q ↦ one i q | no q ↦ elim (ℕ-discrete (j + 1) (f .count)) [ yes y ↦ absurd (omega (arith, N .round y)) | no y ↦ S .near i (omega (arith, N .on (omega (arith, S .slot)))) (omega (arith, N .on (omega (arith, S .slot)))) ] ];
-          far = λ i a b. elim (ℕ-discrete i j) [ yes q ↦ one i q | no q ↦ elim (ℕ-discrete (j + 1) (f .count)) [ yes y ↦ S .near i (omega arith) (omega (arith, N .round y)) | no y ↦ S .far i a (omega (arith, N .on (omega (arith, S .slot)))) ] ];
+          near = λ i a b. elim (ℕ-discrete i j) [
+            | yes q ↦ one i q
+            | no q ↦ elim (ℕ-discrete (j + 1) (f .count)) [
+              | yes y ↦ absurd (omega (arith, N .round y))
+              | no y ↦ let on = N .on (omega (arith, S .slot)) in S .near i (omega arith) (omega arith)
+            ]
+          ];
+          far = λ i a b. elim (ℕ-discrete i j) [
+            | yes q ↦ one i q
+            | no q ↦ elim (ℕ-discrete (j + 1) (f .count)) [
+              | yes y ↦ S .near i (omega arith) (omega (arith, N .round y))
+              | no y ↦ S .far i a (omega (arith, N .on (omega (arith, S .slot))))
+            ]
+          ];
         }
 
     pub calm-raise : f .count ≤ 16 → Calm f v p₀ (set p j r) 0 k
@@ -48,7 +60,8 @@ module _ {f : Pattern} {v : View} where
   all-calm {j = j} S h k l = elim (decLt k j) [ yes a ↦ S .near k a (omega (arith, S .slot)) | no a ↦ S .far k l (omega arith) ]
 
 -- a row at which nothing has to be raised is an occurrence
-pub occurs : (f : Pattern) (v : View) (p : List ℕ) → 1 ≤ f .count → f .count ≤ length p → ((k : ℕ) → k < f .count → 1 ≤ at p k) → ((k : ℕ) → k < f .count → Stable f v p k) → OccursIn f v (take (f .count) p)
+pub occurs : (f : Pattern) (v : View) (p : List ℕ) → 1 ≤ f .count → f .count ≤ length p
+    → ((k : ℕ) → k < f .count → 1 ≤ at p k) → ((k : ℕ) → k < f .count → Stable f v p k) → OccursIn f v (take (f .count) p)
 occurs f v p some few pos still =
     let m = f .count in
     let e : (k : ℕ) → k < m → at (take m p) k ≡ at p k = λ k h. getD-take m p k 0 h in
@@ -57,12 +70,17 @@ occurs f v p some few pos still =
       size = length-take-le m p few;
       inside = λ k h. omega (arith, e k h, pos k h, still k h .inside);
       fit = λ k h. rw (e k h) (still k h .fit);
-      gap = λ k h. let i : k + 1 - 1 ≡ k = omega arith in let z : k < m = omega arith in let y : 0 < k + 1 = omega arith in omega (arith, e k z, e (k + 1) h, rw i at (still (k + 1) h .bound .after y), still k z .bound .before h);
+      gap = λ k h.
+          let i : k + 1 - 1 ≡ k = omega arith in
+          let z : k < m = omega arith in
+          let y : 0 < k + 1 = omega arith in
+          omega (arith, e k z, e (k + 1) h, rw i at (still (k + 1) h .bound .after y), still k z .bound .before h);
       span = let y : m - 1 + 1 ≡ m = omega arith in omega (arith, e 0 some, e (m - 1) last, still (m - 1) last .bound .ends y, still 0 some .bound .starts refl);
     }
 
 -- nothing is left to raise
-pub settled : {f : Pattern} {v : View} {p₀ p : List ℕ} → Ready f (v .places) → Placed (f .count) p₀ → Rising f v p₀ p → ((k : ℕ) → k < f .count → Stable f v p k) → Settled f v p₀ (record { found = true; places = p })
+pub settled : {f : Pattern} {v : View} {p₀ p : List ℕ} → Ready f (v .places) → Placed (f .count) p₀ → Rising f v p₀ p
+    → ((k : ℕ) → k < f .count → Stable f v p k) → Settled f v p₀ (record { found = true; places = p })
 settled {f = f} {v = v} {p = p} ok pos S still =
     record {
       occurs = λ _. occurs f v p (ok .some) (omega (arith, S .size, ok .few)) (placed S pos) still;
@@ -86,7 +104,11 @@ module _ (f : Pattern) (v : View) {marks : List ℕ} {s : Answer} (S : Started (
       let m = f .count in
       let up : (q : List ℕ) → Before m marks q → NotAfter m (s .places) q = λ q P k h. omega (arith, S .past e k h, P k h) in
       record {
-        some = λ g. record { hit = A .occurs g; past = λ k h. omega (arith, getD-take m (a .places) k 0 h, A .above g k h, S .past e k h); least = λ q O P k h. omega (arith, getD-take m (a .places) k 0 h, A .first g q O (up q P) k h) };
+        some = λ g. record {
+          hit = A .occurs g;
+          past = λ k h. omega (arith, getD-take m (a .places) k 0 h, A .above g k h, S .past e k h);
+          least = λ q O P k h. omega (arith, getD-take m (a .places) k 0 h, A .first g q O (up q P) k h);
+        };
         size = A .size;
         rest = λ g k h. A .rest g k h ∙ S .rest e k h ∙ clear .rest k h;
         none = λ g q O P. A .none g q O (up q P);

@@ -28,8 +28,8 @@ start c = check-at c .before .before .before
 abbrev accepted-at : tie.After-faced → tie.After-enum-told
 accepted-at c = c .before
 
-abbrev always-at : tie.After-store → tie.Then1
-always-at c = c .before .before
+abbrev always-at : tie.After-store-arg → tie.Then1
+always-at c = c .before
 
 abbrev store-at : tie.After-slice-known2 → tie.After-store
 store-at c = c .before .before
@@ -37,8 +37,8 @@ store-at c = c .before .before
 abbrev faced-at : tie.After-count-rows → tie.After-faced
 faced-at c = c .before .before
 
-abbrev counted-at : tie.After-store2 → tie.Else2
-counted-at c = c .before .before
+abbrev counted-at : tie.After-store-arg2 → tie.Else2
+counted-at c = c .before
 
 abbrev store-at-2 : tie.After-slice-known3 → tie.After-store2
 store-at-2 c = c .before .before
@@ -105,7 +105,7 @@ mul-if1 : tie.Need-mul-if1
 mul-if1 c = let a = ok (accepted-at c) in omega (arith, products-fit (a .short) (a .few))
 
 store-requires : tie.Need-store-requires
-store-requires c κs = room (c .before)
+store-requires c κs = room (always-at c)
 
 same-length : tie.Need-same-length
 same-length c = search needs
@@ -113,7 +113,7 @@ same-length c = search needs
 returns-2 : tie.Need-returns-2
 returns-2 c =
     let s = store-at c .store .ensures in
-    let e = always-at (store-at c) in
+    let e = always-at (store-at c .before) in
     let a = accepted-at (e .before) in
     all-stored (b a) (t a) (l a) (ok a) (faces (e .before)) (verdict-is a) (room e) (s .0) (s .1)
 
@@ -130,7 +130,7 @@ returns-3 c =
     none-stored (b a) (t a) (l a) (ok a) (faces d) (verdict-is a) (c .before .count-rows .ensures .0) (c .if2 .taken)
 
 store-requires-2 : tie.Need-store-requires-2
-store-requires-2 c κs = room-2 (c .before)
+store-requires-2 c κs = room-2 (counted-at c)
 
 same-length-2 : tie.Need-same-length-2
 same-length-2 c = search needs
@@ -138,7 +138,7 @@ same-length-2 c = search needs
 returns-4 : tie.Need-returns-4
 returns-4 c =
     let s = store-at-2 c .store2 .ensures in
-    let e = counted-at (store-at-2 c) in
+    let e = counted-at (store-at-2 c .before) in
     let d = faced-at (e .before) in
     let a = accepted-at d in
     all-stored (b a) (t a) (l a) (ok a) (faces d) (verdict-is a) (room-2 e) (s .0) (s .1)

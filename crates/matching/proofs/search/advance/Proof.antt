@@ -21,8 +21,8 @@ start-at c = c .before .before
 abbrev begin : tie.After-slice-known2 → tie.Start
 begin c = entry (start-at c .before)
 
-abbrev then-at : tie.After-settle → tie.Then1
-then-at c = c .before .before
+abbrev then-at : tie.After-settle-arg → tie.Then1
+then-at c = c .before
 
 abbrev settle-at : tie.After-slice-known3 → tie.After-settle
 settle-at c = c .before .before
@@ -40,16 +40,16 @@ start-requires c κs =
 
 settle-requires : tie.Need-settle-requires
 settle-requires c κs =
-    let b = c .before .before in
-    let a = begin b .pre in
-    record { plan = a .plan; size = omega (arith, a .spare .size); placed = λ k h. omega (arith, start-at b .start .ensures .past (c .before .if1 .taken) k h) }
+    let e = then-at c in
+    let a = begin (e .before) .pre in
+    record { plan = a .plan; size = omega (arith, a .spare .size); placed = λ k h. omega (arith, start-at (e .before) .start .ensures .past (e .if1 .taken) k h) }
 
 same-length : tie.Need-same-length
 same-length c = search needs
 
 returns : tie.Need-returns
 returns c = λ w.
-    let e = then-at (settle-at c) in
+    let e = then-at (settle-at c .before) in
     let b = e .before in
     answered (planned w) (seen b (planned w)) (start-at b .start .ensures) (begin b .pre .spare) (e .if1 .taken) (settle-at c .settle .ensures w)
 

@@ -31,8 +31,11 @@ test-at c = c .before
 abbrev loop-at : tie.After-next Inv-loop μ-loop → tie.At-loop Inv-loop μ-loop
 loop-at c = test-at c .before
 
-abbrev next-at : tie.After-visit Inv-loop μ-loop → tie.After-next Inv-loop μ-loop
-next-at c = c .before .before
+abbrev next-at : tie.After-visit-arg Inv-loop μ-loop → tie.After-next Inv-loop μ-loop
+next-at c = c .before
+
+abbrev turn-at : tie.After-visit Inv-loop μ-loop → tie.After-next Inv-loop μ-loop
+turn-at c = next-at (c .before)
 
 abbrev visit-at : tie.After-wide Inv-loop μ-loop → tie.After-visit Inv-loop μ-loop
 visit-at c = c .before .before .before
@@ -60,7 +63,7 @@ same-size : (c : tie.At-loop Inv-loop μ-loop) → length (c .loop .p) ≡ lengt
 same-size c = calm c .rising .size ∙ sym (given c .size)
 
 -- the place that the visit found is in the text
-in-text : (c : tie.After-wide Inv-loop μ-loop) → visit-at c .visit .result ≤ length (start (loop-at (next-at (visit-at c))) .args .text .now)
+in-text : (c : tie.After-wide Inv-loop μ-loop) → visit-at c .visit .result ≤ length (start (loop-at (turn-at (visit-at c))) .args .text .now)
 in-text c = omega (arith, c .before .before .if1 .left)
 
 -- ----
@@ -73,55 +76,55 @@ next-requires c κs = calm (c .before) .slot
 
 visit-requires : tie.Need-visit-requires Inv-loop μ-loop
 visit-requires c κs =
-    let l = loop-at (c .before) in
+    let l = loop-at (next-at c) in
     let s = calm l in
     record { plan = given l .plan; slot = s .slot; size = s .rising .size; placed = placed (s .rising) (given l .placed) (l .loop .j) (s .slot) }
 
 same-length : tie.Need-same-length Inv-loop μ-loop
-same-length c = same-size (loop-at (next-at (c .before)))
+same-length c = same-size (loop-at (turn-at (c .before)))
 
 returns : tie.Need-returns Inv-loop μ-loop
 returns c = λ w.
-    let s = loop-at (next-at (c .before)) .loop .inv w in
+    let s = loop-at (turn-at (c .before)) .loop .inv w in
     unsettled refl (none (s .rising) (c .before .visit .ensures w) (s .slot) (omega (arith, c .if1 .taken)))
 
 mul-wide : tie.Need-mul-wide Inv-loop μ-loop
-mul-wide c = omega (arith, inside (loop-at (next-at (c .before))))
+mul-wide c = omega (arith, inside (loop-at (turn-at (c .before))))
 
 slice-read-wide : tie.Need-slice-read-wide Inv-loop μ-loop
-slice-read-wide c = omega (arith, inside (loop-at (next-at (c .before .before))))
+slice-read-wide c = omega (arith, inside (loop-at (turn-at (c .before .before))))
 
 wide-requires : tie.Need-wide-requires Inv-loop μ-loop
 wide-requires c κs = search needs
 
 add-calm : tie.Need-add-calm Inv-loop μ-loop
 add-calm c =
-    let d = next-at (visit-at (c .before)) in
+    let d = turn-at (visit-at (c .before)) in
     omega (arith, test-at d .loop-test .taken, given (loop-at d) .plan .ready .few)
 
 loop-less : tie.Need-loop-less Inv-loop μ-loop
-loop-less c = omega (arith, test-at (next-at (visit-at (c .before))) .loop-test .taken)
+loop-less c = omega (arith, test-at (turn-at (visit-at (c .before))) .loop-test .taken)
 
 loop-again : tie.Need-loop-again Inv-loop μ-loop
 loop-again c = λ w.
     let b = visit-at (c .before) in
-    let d = next-at b in
+    let d = turn-at b in
     let same = c .if2 .taken ∙ c .before .wide .ensures .0 in
     calm-same (loop-at d .loop .inv w) (d .next .ensures) (b .visit .ensures w) (in-text (c .before)) (test-at d .loop-test .taken) same
 
 cast-p : tie.Need-cast-p Inv-loop μ-loop
-cast-p c = omega (arith, in-text (c .before), given (loop-at (next-at (visit-at (c .before)))) .plan .ready .short)
+cast-p c = omega (arith, in-text (c .before), given (loop-at (turn-at (visit-at (c .before)))) .plan .ready .short)
 
 mul-p : tie.Need-mul-p Inv-loop μ-loop
-mul-p c = omega (arith, inside (loop-at (next-at (visit-at (c .before)))))
+mul-p c = omega (arith, inside (loop-at (turn-at (visit-at (c .before)))))
 
 slice-write-p : tie.Need-slice-write-p Inv-loop μ-loop
-slice-write-p c = omega (arith, inside (loop-at (next-at (visit-at (c .before)))))
+slice-write-p c = omega (arith, inside (loop-at (turn-at (visit-at (c .before)))))
 
 loop-less-2 : tie.Need-loop-less-2 Inv-loop μ-loop
 loop-less-2 c =
     let b = visit-at (c .before) in
-    let d = next-at b in
+    let d = turn-at b in
     let w = given (loop-at d) .plan in
     let s = calm (loop-at d) in
     let raised = less (s .rising) (b .visit .ensures w) (s .slot) (w .ready) (in-text (c .before)) (λ e. c .if2 .left (e ∙ sym (c .before .wide .ensures .0))) in
@@ -130,7 +133,7 @@ loop-less-2 c =
 loop-again-2 : tie.Need-loop-again-2 Inv-loop μ-loop
 loop-again-2 c = λ w.
     let b = visit-at (c .before) in
-    let d = next-at b in
+    let d = turn-at b in
     calm-raise (loop-at d .loop .inv w) (d .next .ensures) (b .visit .ensures w) (in-text (c .before)) (w .ready .few)
 
 same-length-2 : tie.Need-same-length-2 Inv-loop μ-loop
