@@ -30,6 +30,9 @@ pub record Lent (j : ℕ) (row row′ : List ℕ) : Type 0 where
 pub lent-begin : {j : ℕ} {row : List ℕ} → length row ≡ 16 → Lent j row row
 lent-begin h = record { long = h; front = refl }
 
+pub lent-slot : {j : ℕ} {row row′ : List ℕ} → Lent j row row′ → j < 16 → j < length row′
+lent-slot s h = omega (arith, s .long)
+
 module _ {j : ℕ} {row row′ : List ℕ} (s : Lent j row row′) (p : ℕ) where
   pub lent-set : Lent j row (set row′ j p)
   lent-set = record { long = simp length-set (s .long); front = take-set-le j row′ j p (omega arith) ∙ s .front }
@@ -50,6 +53,12 @@ module _ {j : ℕ} {row row′ : List ℕ} (s : Lent j row row′) (p : ℕ) whe
   one-more h = let l = s .long in rw (add-one, ← s .front) (take-suc-set row′ j p (omega arith))
 
 module _ {m first : ℕ} {low high N : List ℕ} {j x y done space : ℕ} where
+  -- a walk's slot and its first index are inside the table
+  pub walk-begin : Walk m first low high N j x y done space → (j < 16) × (x ≤ 20000) × (320016 ≤ length N)
+  walk-begin w =
+      let slot = w .slot in
+      (omega (arith, w .leads .few), omega (arith, w .start, w .leads .inside j slot), w .leads .long)
+
   -- the next index to visit is q
   pub record Going (w : Walk m first low high N j x y done space) (row l : List ℕ) (q rows : ℕ) (l′ : List ℕ) : Type 0 where
     pub past : x ≤ q
@@ -79,6 +88,10 @@ module _ {m first : ℕ} {low high N : List ℕ} {j x y done space : ℕ} where
 
       pub going-small : first + q < 20000
       going-small = let a = w .leads .inside j (w .slot) in let b = going-in .0 in omega arith
+
+      -- the index after it is inside the table
+      pub going-next : (j < 16) × (q + 1 ≤ 20000) × (320016 ≤ length N)
+      going-next = let small = going-small in (walk-begin w .0, omega arith, w .leads .long)
 
       -- there is room for the rows that start there
       pub going-fits : rows + length (w .rows j q) ≤ w .room
