@@ -1,7 +1,6 @@
 ghost use mathlib.Core.Path.{_≡_};
-ghost use Rattle.pattern.specs.declared.slot.Slot.{Slot};
 ghost use Rattle.pattern.specs.Patterns.{slotOf, withGap, takes, member, padded};
-ghost use Rattle.pattern.specs.Numbers.{Numbers};
+ghost use Rattle.pattern.specs.Numbers.{Numbers, numbersTake};
 ghost use lib.ListN.{take};
 ghost use Prim.Native.Nat.{min, _<_};
 
@@ -123,7 +122,7 @@ impl Slot {
 
     // Whether the slot with these numbers takes the word.
     pub fn numbers_take(numbers: &[u16], word: u16) -> bool
-        ensures { λ r. ⌜ ((s : Slot) → Numbers s (now (numbers .entry)) → r ≡ takes s word) ⌝ }
+        ensures { λ r. ⌜ r ≡ numbersTake (now (numbers .entry)) word ⌝ }
     {
         if numbers.len() < 11 {
             return false;

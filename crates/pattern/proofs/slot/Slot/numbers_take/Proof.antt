@@ -1,13 +1,16 @@
 -- `pattern::Slot::numbers_take` meets its contract: a slot's words are the last eight of its numbers.
-use native.Mathlib.Omega.{arith}
-use mathlib.Core.Path.{refl, _∙_}
-use Rattle.pattern.proofs.Numbers.{numbers-length, numbers-taken}
+use borrow.Author.Tests.{lt-ltb, le-ltb}
+use Rattle.pattern.specs.Numbers.{numbersTake}
 use borrow.Author.Needs.{needs}
 use Rattle.pattern.proofs.slot.Slot.numbers_take.Statement.{statement}
 use Rattle.pattern.proofs.slot.Slot.numbers_take.Tie as tie
 
+abbrev else-at : tie.After-wide → tie.Else1
+else-at c = c .before .before .before
+
 returns : tie.Need-returns
-returns c = λ s N. absurd (omega (arith, numbers-length N, c .if1 .taken))
+unfolding numbersTake
+returns c = simp (lt-ltb _ _ (c .if1 .taken))
 
 sub-lists : tie.Need-sub-lists
 sub-lists c = search needs
@@ -28,7 +31,8 @@ lists-requires : tie.Need-lists-requires
 lists-requires c κs = search needs
 
 returns-2 : tie.Need-returns-2
-returns-2 c = λ s N. c .lists .ensures ∙ numbers-taken N _ (c .before .wide .ensures .0) refl
+unfolding numbersTake
+returns-2 c = simp (le-ltb _ _ (else-at (c .before) .if1 .left), ← c .before .wide .ensures .0, c .lists .ensures)
 
 pub numbers-take-spec : {M : Type 1} → statement M
 numbers-take-spec =
