@@ -95,10 +95,10 @@ module _ {f : Pattern} {v : View} (ok : Input f v) {T : List ℕ} (fit : Fitted 
 -- ---- the column by one run
 
 pub column-all : {f : Pattern} {v : View} {H L : List ℕ} → Input f v → unbound f (v .places) ≡ true → Row f v (allOf (v .places)) (f .count - 1) 0 H L → Column f v H L
-column-all {f} {v} ok free r = record {
+column-all {f} {v} ok spans r = record {
   starts = λ i h.
       let n = v .places in
-      let b = unbound-spans f n free in
+      let b = unbound-spans f n spans in
       let e : stopAt f (allOf n) ≡ (λ j. n + 1) = fun-ext (stop-all f n) in
       let z : 0 + i + 1 ≡ i + 1 = omega arith in
       rw (e, z) at (r .row i (rw (size-all f n) h)) ∙ sym (count-all f v (ok .pattern .some) (i + 1) (omega arith) (omega arith) (b .0) (b .1));

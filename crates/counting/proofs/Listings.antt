@@ -81,7 +81,7 @@ map-same row (r ∷ R) = ap (λ (T : List (List ℕ)). r ∷ T) (map-same row R)
 
 -- ---- one table of all places
 
-module _ {f : Pattern} {v : View} (ok : Input f v) (free : unbound f (v .places) ≡ true) where
+module _ {f : Pattern} {v : View} (ok : Input f v) (spans : unbound f (v .places) ≡ true) where
   abbrev allRows : ℕ → ℕ → List (List ℕ)
   allRows = rowsAt f v (allOf (v .places))
 
@@ -89,7 +89,7 @@ module _ {f : Pattern} {v : View} (ok : Input f v) (free : unbound f (v .places)
   unfolding run forest tree rowsOf
   all-rows =
       let n = v .places in
-      let b = unbound-spans f n free in
+      let b = unbound-spans f n spans in
       let st = stopAt f (allOf n) in
       let k = f .count - 1 - 0 in
       let e : st ≡ (λ j. n + 1) = fun-ext (stop-all f n) in

@@ -10,26 +10,6 @@ pub(crate) struct Wide {
     pub lo: u64,
 }
 
-pub(crate) fn add(a: Wide, b: Wide) -> Wide
-    requires { ⌜ value a + value b < 2 ^ 128 ⌝ }
-    ensures { λ r. ⌜ value r ≡ value a + value b ⌝ }
-{
-    let x = a.lo;
-    let y = b.lo;
-    let lo = std::num::wrapping_add_u64(x, y);
-    if lo < x {
-        Wide {
-            hi: a.hi + b.hi + 1,
-            lo,
-        }
-    } else {
-        Wide {
-            hi: a.hi + b.hi,
-            lo,
-        }
-    }
-}
-
 // 1 where x is below y, else 0.
 fn below(x: u64, y: u64) -> u64
     ensures { λ r. ⌜ r ≡ pick (ltb x y) 1 0 ⌝ }
@@ -40,6 +20,21 @@ fn below(x: u64, y: u64) -> u64
     0
 }
 
+// The sum, where it fits.
+pub(crate) fn add(a: Wide, b: Wide) -> Wide
+    requires { ⌜ value a + value b < 2 ^ 128 ⌝ }
+    ensures { λ r. ⌜ value r ≡ value a + value b ⌝ }
+{
+    let x = a.lo;
+    let y = b.lo;
+    let lo = std::num::wrapping_add_u64(x, y);
+    Wide {
+        hi: a.hi + b.hi + below(lo, x),
+        lo,
+    }
+}
+
+// The difference, where there is one.
 pub(crate) fn sub(a: Wide, b: Wide) -> Wide
     requires { ⌜ value b ≤ value a ⌝ }
     ensures { λ r. ⌜ value r ≡ value a - value b ⌝ }

@@ -16,7 +16,7 @@ pub record PutAll (f : Pattern) (n : ℕ) (T : List ℕ) (space : ℕ) : Type 0 
 -- where the span limits cannot bind
 pub record PutWhole (m n reach : ℕ) (low high T : List ℕ) (space : ℕ) : Type 0 where
   pub plan : Plan m n reach low high T
-  pub free : unbound (planPattern plan) n ≡ true
+  pub spans : unbound (planPattern plan) n ≡ true
   pub room : length (planRows plan) * m ≤ space
 
 -- for any pattern, with its least span and how many places a row of it can span

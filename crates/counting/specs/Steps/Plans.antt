@@ -37,7 +37,7 @@ pub record Outlined (f : Pattern) (n : ℕ) (o : Outline) : Type 0 where
   pub farthest : o .reach ≡ far f (f .count - 1)
   pub widest : o .span ≡ width f
   pub shortest : o .least ≡ f .least
-  pub free : o .unbound ≡ unbound f n
+  pub spans : o .unbound ≡ unbound f n
 
 -- an accepted pattern and a view: both bounds of its gaps, how far its last slot can be from its first, and which slot fits which place
 pub record Handed (f : Pattern) (v : View) (reach : ℕ) (low high T : List ℕ) : Type 0 where

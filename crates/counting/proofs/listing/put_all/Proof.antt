@@ -16,8 +16,8 @@ outline-at c = c .before .before
 abbrev start : tie.After-high → tie.Start
 start c = outline-at c .before .before .before
 
-abbrev free-at : tie.After-put-whole-arg → tie.Then1
-free-at c = c .before .before .before .before
+abbrev unbound-at : tie.After-put-whole-arg → tie.Then1
+unbound-at c = c .before .before .before .before
 
 abbrev whole-at : tie.After-slice-known2 → tie.After-put-whole
 whole-at c = c .before .before .before
@@ -36,7 +36,7 @@ Given c = PutAll (c .args .f) (c .args .n) (c .args .fits .now) (length (c .args
 module _ (c : tie.Then1) (g : Given (start (c .before))) where
   abbrev putWhole : PutWhole (start (c .before) .args .f .count) (start (c .before) .args .n) (outline-at (c .before) .of .result .reach)
       (outline-at (c .before) .of .result .low) (outline-at (c .before) .of .result .high) (start (c .before) .args .fits .now) (length (start (c .before) .args .list .now))
-  putWhole = let o = outline-at (c .before) .of .ensures in record { plan = planned (g .known) o; free = sym (o .free) ∙ c .if1 .taken; room = g .room }
+  putWhole = let o = outline-at (c .before) .of .ensures in record { plan = planned (g .known) o; spans = sym (o .spans) ∙ c .if1 .taken; room = g .room }
 
 module _ (c : tie.Else1) (g : Given (start (c .before))) where
   abbrev putEach : PutEach (start (c .before) .args .f .count) (start (c .before) .args .n) (outline-at (c .before) .of .result .reach)
@@ -57,13 +57,13 @@ slice-aggregate-put-whole-3 : tie.Need-slice-aggregate-put-whole-3
 slice-aggregate-put-whole-3 c = sym (length-replicate {A = ℕ} 320016 0)
 
 put-whole-requires : tie.Need-put-whole-requires
-put-whole-requires c κs = let t = free-at c in (putWhole t (start (t .before) .pre), long-new 320016)
+put-whole-requires c κs = let t = unbound-at c in (putWhole t (start (t .before) .pre), long-new 320016)
 
 same-length : tie.Need-same-length
 same-length c = search needs
 
 returns : tie.Need-returns
-returns c = λ g. let w = whole-at c in w .put-whole .ensures (putWhole (free-at (w .before)) g)
+returns c = λ g. let w = whole-at c in w .put-whole .ensures (putWhole (unbound-at (w .before)) g)
 
 slice-aggregate-put-each : tie.Need-slice-aggregate-put-each
 slice-aggregate-put-each c = search needs

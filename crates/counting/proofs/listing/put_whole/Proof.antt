@@ -45,7 +45,7 @@ slice-aggregate-walk : tie.Need-slice-aggregate-walk
 slice-aggregate-walk c = search needs
 
 walk-requires : tie.Need-walk-requires
-walk-requires c κs = let g = entry c .pre .0 in (all-walk (g .plan .handed .input) (g .free) (entry c .args .list .now) (leads c g) (g .room), refl)
+walk-requires c κs = let g = entry c .pre .0 in (all-walk (g .plan .handed .input) (g .spans) (entry c .args .list .now) (leads c g) (g .room), refl)
 
 same-length : tie.Need-same-length
 same-length c = search needs
@@ -55,7 +55,7 @@ same-length-2 c = search needs
 
 returns : tie.Need-returns
 returns c = λ g. let w = walk-at c in let l = entry (w .before) .args .list .now in let h = leads (w .before) g in
-    all-written (g .plan .handed .input) (g .free) l h (g .room) (w .walk .ensures .0 (all-walk (g .plan .handed .input) (g .free) l h (g .room)))
+    all-written (g .plan .handed .input) (g .spans) l h (g .room) (w .walk .ensures .0 (all-walk (g .plan .handed .input) (g .spans) l h (g .room)))
 
 pub put-whole-spec : {M : Type 1} → statement M
 put-whole-spec =

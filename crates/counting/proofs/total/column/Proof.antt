@@ -15,8 +15,8 @@ outline-at c = c .before .before
 abbrev start : tie.After-high → tie.Start
 start c = outline-at c .before .before .before .before
 
-abbrev free-at : tie.After-whole-arg2 → tie.Then1
-free-at c = c .before .before .before .before
+abbrev unbound-at : tie.After-whole-arg2 → tie.Then1
+unbound-at c = c .before .before .before .before
 
 abbrev whole-at : tie.After-slice-known4 → tie.After-whole
 whole-at c = c .before .before .before .before
@@ -37,7 +37,7 @@ slice-aggregate-whole-2 : tie.Need-slice-aggregate-whole-2
 slice-aggregate-whole-2 c = search needs
 
 whole-requires : tie.Need-whole-requires
-whole-requires c κs = let h = free-at c .before in (planned (start h .pre .0) (outline-at h .of .ensures), start h .pre .1)
+whole-requires c κs = let h = unbound-at c .before in (planned (start h .pre .0) (outline-at h .of .ensures), start h .pre .1)
 
 same-length : tie.Need-same-length
 same-length c = whole-at c .whole .kept .1 .1 .1 .1 .1 .1 .0
@@ -46,7 +46,7 @@ same-length-2 : tie.Need-same-length-2
 same-length-2 c = whole-at c .whole .kept .1 .1 .1 .1 .1 .1 .1 .0
 
 returns : tie.Need-returns
-returns c = λ k. let w = whole-at c in let t = free-at (w .before) in let o = outline-at (t .before) .of .ensures in w .whole .ensures (planned k o) (sym (o .free) ∙ t .if1 .taken)
+returns c = λ k. let w = whole-at c in let t = unbound-at (w .before) in let o = outline-at (t .before) .of .ensures in w .whole .ensures (planned k o) (sym (o .spans) ∙ t .if1 .taken)
 
 slice-aggregate-each : tie.Need-slice-aggregate-each
 slice-aggregate-each c = search needs

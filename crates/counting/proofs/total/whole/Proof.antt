@@ -22,7 +22,7 @@ same-length-2 : tie.Need-same-length-2
 same-length-2 c = ways-at c .ways .kept .1 .1 .1 .1 .1 .1 .1 .0
 
 returns : tie.Need-returns
-returns c = λ g free. column-all (g .handed .input) free (ways-at c .ways .ensures (allRun g))
+returns c = λ g spans. column-all (g .handed .input) spans (ways-at c .ways .ensures (allRun g))
 
 pub whole-spec : {M : Type 1} → statement M
 whole-spec = tie.close (tie.spec ways-requires same-length same-length-2 returns)

@@ -75,7 +75,7 @@ returns c = let k = c .before in let h = high-at k in let d = low-at h in let f 
   farthest = most h;
   widest = omega (arith, k .clip .ensures, k .before .widen2 .ensures .0, most h);
   shortest = k .before .before .widen .ensures .0;
-  free = unbound-is f _ (k .before .before .widen .ensures .0) (k .before .widen2 .ensures .0) (least d) (most h) (c .unbound .ensures);
+  spans = unbound-is f _ (k .before .before .widen .ensures .0) (k .before .widen2 .ensures .0) (least d) (most h) (c .unbound .ensures);
 }
 
 pub of-spec : {M : Type 1} → statement M
