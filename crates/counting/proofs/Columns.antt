@@ -13,7 +13,7 @@ use Rattle.matching.specs.Occurrence.{View}
 use Rattle.matching.specs.Occurrences.{occurrencesIn, startingIn}
 use Rattle.matching.specs.Laws.Sums.{total, total-same}
 use Rattle.matching.specs.Laws.Branches.{when, stands, ways}
-use Rattle.matching.specs.Laws.Cover.{distance, far, width, limit, least, count-each, count-all, tally-places}
+use Rattle.matching.specs.Laws.Cover.{width, limit, least, count-each, count-all, tally-places}
 use Rattle.counting.specs.declared.gaps.Outline.{Outline}
 use Rattle.counting.specs.declared.window.Window.{Window}
 use Rattle.counting.specs.Inputs.{Input}
@@ -21,7 +21,7 @@ use Rattle.counting.specs.Numbers.{val}
 use Rattle.counting.specs.Laws.Bound.{tally-fits}
 use Rattle.counting.specs.Steps.Fits.{Fitted}
 use Rattle.counting.specs.Steps.Plans.{unbound, Outlined, Known, Plan, Run}
-use Rattle.counting.specs.Steps.Rows.{Room, size, stopAt, Row, Column}
+use Rattle.counting.specs.Steps.Rows.{Room, Blank, size, stopAt, Row, Column}
 use Rattle.counting.proofs.Distances.{unbound-spans}
 use Rattle.counting.proofs.Loops.{val-same, val-other}
 
@@ -111,9 +111,10 @@ pub record Filling (f : Pattern) (v : View) (H₀ L₀ : List ℕ) (i : ℕ) (H 
   pub low : length L ≡ length L₀
   pub inside : i ≤ v .places
   pub done : (k : ℕ) → k < i → val H L k ≡ length (startingIn f v (k + 1))
+  pub todo : (k : ℕ) → i ≤ k → val H L k ≡ 0
 
-pub filling-begin : {f : Pattern} {v : View} {H L : List ℕ} → Filling f v H L 0 H L
-filling-begin = record { high = refl; low = refl; inside = omega arith; done = λ k h. absurd (omega arith) }
+pub filling-begin : {f : Pattern} {v : View} {n : ℕ} {H L : List ℕ} → Blank n H L → Filling f v H L 0 H L
+filling-begin b = record { high = refl; low = refl; inside = omega arith; done = λ k h. absurd (omega arith); todo = λ k h. b .zero k }
 
 module _ {f : Pattern} {v : View} {H₀ L₀ : List ℕ} {i : ℕ} {H L : List ℕ} (s : Filling f v H₀ L₀ i H L) where
   filling-set : Room (v .places) H₀ L₀ → i < v .places → (h l : ℕ) → h * 2 ^ 64 + l ≡ length (startingIn f v (i + 1)) → Filling f v H₀ L₀ (i + 1) (set H i h) (set L i l)
@@ -127,6 +128,7 @@ module _ {f : Pattern} {v : View} {H₀ L₀ : List ℕ} {i : ℕ} {H L : List �
         low = simp length-set (s .low);
         inside = omega arith;
         done = below-more _ i (λ k y. val-other H L i h l k (λ q. omega arith) ∙ s .done k y) (val-same H L i h l (omega arith) (omega arith) ∙ e);
+        todo = λ k y. val-other H L i h l k (λ q. omega arith) ∙ s .todo k (omega arith);
       }
 
   pub column-each : v .places ≤ i → Column f v H L
@@ -146,8 +148,16 @@ module _ {f : Pattern} {v : View} {H₀ L₀ : List ℕ} {i : ℕ} {H L : List �
         filling-set room inside _ _ (rw (z, x, y) at (r .row 0 (omega arith)) ∙ sym starting)
 
     -- no row starts where the first slot does not fit
-    pub filling-skip : {T : List ℕ} → Fitted f v T → (getD T i 0 ≡ 1 → ⊥) → Filling f v H₀ L₀ (i + 1) (set H i 0) (set L i 0)
-    filling-skip fit off = filling-set room inside 0 0 (sym (starting ∙ starts-none ok fit i inside off (f .count - 1) (limit f v (i + 1)) (least f (i + 1))))
+    pub filling-skip : {T : List ℕ} → Fitted f v T → (getD T i 0 ≡ 1 → ⊥) → Filling f v H₀ L₀ (i + 1) H L
+    filling-skip fit off =
+        let none = starting ∙ starts-none ok fit i inside off (f .count - 1) (limit f v (i + 1)) (least f (i + 1)) in
+        record {
+          high = s .high;
+          low = s .low;
+          inside = omega arith;
+          done = below-more _ i (s .done) (s .todo i (omega arith) ∙ sym none);
+          todo = λ k y. s .todo k (omega arith);
+        }
 
 -- ---- its sum is the tally
 
@@ -163,10 +173,16 @@ module _ {f : Pattern} {v : View} {H L : List ℕ} (ok : Input f v) (c : Column 
 
 -- ---- new lists
 
-pub room-new : (space n : ℕ) → n < space → Room n (replicate space 0) (replicate space 0)
-room-new space n h =
+zero-at : (space i : ℕ) → getD {A = ℕ} (replicate space 0) i 0 ≡ 0
+zero-at zero i = refl
+zero-at (suc space) zero = refl
+zero-at (suc space) (suc i) = zero-at space i
+
+pub blank-new : (space n : ℕ) → n < space → Blank n (replicate space 0) (replicate space 0)
+unfolding val
+blank-new space n h =
     let e = length-replicate {A = ℕ} space 0 in
-    record { high = omega arith; low = omega arith }
+    record { room = record { high = omega arith; low = omega arith }; zero = λ i. rw (zero-at space i) }
 
 pub long-new : (space : ℕ) → space ≤ length {A = ℕ} (replicate space 0)
 long-new space = omega (arith, length-replicate {A = ℕ} space 0)

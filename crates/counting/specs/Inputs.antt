@@ -1,5 +1,5 @@
 -- What the steps behind the tests 1 to 6 are given.
-use Prim.Native.Nat.{ℕ, _≤_}
+use Prim.Native.Nat.{_≤_}
 use Rattle.pattern.specs.declared.Pattern.{Pattern}
 use Rattle.pattern.specs.Accepted.{Accepted}
 use Rattle.matching.specs.Occurrence.{View}

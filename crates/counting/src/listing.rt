@@ -10,7 +10,7 @@ use pattern::Pattern;
 use pattern::Refusal;
 use pattern::Verdict;
 ghost use mathlib.Core.Path.{_≡_};
-ghost use Prim.Native.Nat.{_*_, _<_, _≤_};
+ghost use Prim.Native.Nat.{_<_, _≤_};
 ghost use lib.ListN.{length};
 ghost use Rattle.matching.specs.Occurrences.{occurrencesIn};
 ghost use Rattle.matching.specs.Written.{written};

@@ -17,7 +17,7 @@ ghost use Rattle.matching.specs.Laws.Sums.{total};
 ghost use Rattle.matching.specs.Occurrences.{occurrencesIn};
 ghost use Rattle.counting.specs.Numbers.{value, val};
 ghost use Rattle.counting.specs.Steps.Plans.{Known, knownView, Plan, planPattern, planView, unbound};
-ghost use Rattle.counting.specs.Steps.Rows.{Room, Column};
+ghost use Rattle.counting.specs.Steps.Rows.{Room, Blank, Column};
 ghost use Rattle.counting.specs.Answers.{tallied};
 
 // What the tally answers: how many occurrences there are, or why it counted none.
@@ -49,7 +49,7 @@ fn whole(
     ways(low, high, m, reach, fits, w, hi, lo);
 }
 
-// The column of n places for any pattern: a run for each first place, over the places that a row can span.
+// The column of n places for any pattern, from one of zeros: a run for each first place, over the places that a row can span.
 fn each(
     low: &[u16],
     high: &[u16],
@@ -62,7 +62,7 @@ fn each(
     hi: &mut [u64],
     lo: &mut [u64],
 )
-    requires { ⌜ Plan m n reach (now low) (now high) (now fits) ⌝ ∗ ⌜ Room n (now hi) (now lo) ⌝ ∗ ⌜ (least < 65536) × (1 ≤ span) × (span ≤ 961) ⌝ }
+    requires { ⌜ Plan m n reach (now low) (now high) (now fits) ⌝ ∗ ⌜ Blank n (now hi) (now lo) ⌝ ∗ ⌜ (least < 65536) × (1 ≤ span) × (span ≤ 961) ⌝ }
     ensures { λ _. ⌜ ((g : Plan m n reach (now (low .entry)) (now (high .entry)) (now (fits .entry))) → least ≡ g .least → span ≡ width (planPattern g) → Column (planPattern g) (planView g) (now (hi .exit)) (now (lo .exit))) ⌝ }
 {
     let mut x = [0u64; 1000];
@@ -81,16 +81,14 @@ fn each(
             lo[i] = y[0];
             i += 1;
         } else {
-            hi[i] = 0;
-            lo[i] = 0;
             i += 1;
         }
     }
 }
 
-// How many occurrences start at each of n places.
+// How many occurrences start at each of n places, in a column of zeros.
 fn column(f: Pattern, n: usize, fits: &[u8], hi: &mut [u64], lo: &mut [u64])
-    requires { ⌜ Known f n (now fits) ⌝ ∗ ⌜ Room n (now hi) (now lo) ⌝ }
+    requires { ⌜ Known f n (now fits) ⌝ ∗ ⌜ Blank n (now hi) (now lo) ⌝ }
     ensures { λ _. ⌜ ((k : Known f n (now (fits .entry))) → Column f (knownView k) (now (hi .exit)) (now (lo .exit))) ⌝ }
 {
     let m = f.count;

@@ -21,6 +21,11 @@ pub record Room (n : ℕ) (H L : List ℕ) : Type 0 where
   pub high : n < length H
   pub low : n < length L
 
+-- the same, and every number is 0
+pub record Blank (n : ℕ) (H L : List ℕ) : Type 0 where
+  pub room : Room n H L
+  pub zero : (i : ℕ) → val H L i ≡ 0
+
 -- ---- one slot's row, by its table of fits from the index `at` on
 
 -- the last slot's, of the places from `first` + 1 on

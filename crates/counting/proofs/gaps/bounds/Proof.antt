@@ -37,7 +37,9 @@ loop-less : tie.Need-loop-less Inv-loop μ-loop
 loop-less c = search needs
 
 loop-again : tie.Need-loop-again Inv-loop μ-loop
-loop-again c = let i = c .before .before in bounding-more (i .before .loop .inv) (i .loop-test .taken) (i .before .before .pre) (c .bound .ensures)
+loop-again c =
+    let i = c .before .before in
+    bounding-more (i .before .loop .inv) (i .loop-test .taken) (i .before .before .pre) (c .bound .ensures)
 
 returns : tie.Need-returns Inv-loop μ-loop
 returns c = bounded (c .before .loop .inv) (c .loop-test .left)

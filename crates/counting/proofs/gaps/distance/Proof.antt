@@ -1,6 +1,6 @@
 -- `counting::gaps::distance` meets its contract. The invariant: r is the distance to the slot before slot k.
 use native.Mathlib.Omega.{arith}
-use Prim.Native.Nat.{_-_, _+_, _*_, _≤_}
+use Prim.Native.Nat.{_-_, _*_, _≤_}
 use mathlib.Core.Path.{_≡_, refl}
 use lib.ListN.{getD}
 use Rattle.matching.specs.Laws.Cover.{distance}
@@ -41,7 +41,9 @@ loop-less : tie.Need-loop-less Inv-loop μ-loop
 loop-less c = search needs
 
 loop-again : tie.Need-loop-again Inv-loop μ-loop
-loop-again c = let l = c .before .before .before .loop in (search needs, search needs, search needs, distance-more _ (l .k) (l .inv .0) (l .inv .3) (c .widen .ensures .0))
+loop-again c =
+    let l = c .before .before .before .loop in
+    (search needs, search needs, search needs, distance-more _ (l .k) (l .inv .0) (l .inv .3) (c .widen .ensures .0))
 
 returns : tie.Need-returns Inv-loop μ-loop
 returns c = let l = c .before .loop in let e : c .before .before .before .args .m ≡ l .k = omega arith in rw e (l .inv .3)

@@ -21,11 +21,19 @@ below-requires : tie.Need-below-requires
 below-requires c κs = search needs
 
 add-t8 : tie.Need-add-t8
-add-t8 c = let s = start (c .before) in let a = s .args .a in let b = s .args .b in let w = low-at (c .before) .wrapping-add-u64 in
+add-t8 c =
+    let s = start (c .before) in
+    let a = s .args .a in
+    let b = s .args .b in
+    let w = low-at (c .before) .wrapping-add-u64 in
     record { fits = high-more (a .hi) (a .lo) (b .hi) (b .lo) (w .result) (s .good .0 .1 .1 .1 .0 .1) (s .good .1 .0 .1 .1 .1 .0 .1) (w .ensures) (s .pre) (c .below .ensures) }
 
 returns : tie.Need-returns
-returns c = let s = start (c .before) in let a = s .args .a in let b = s .args .b in let w = low-at (c .before) .wrapping-add-u64 in
+returns c =
+    let s = start (c .before) in
+    let a = s .args .a in
+    let b = s .args .b in
+    let w = low-at (c .before) .wrapping-add-u64 in
     more (a .hi) (a .lo) (b .hi) (b .lo) (w .result) (s .good .0 .1 .1 .1 .0 .1) (s .good .1 .0 .1 .1 .1 .0 .1) (w .ensures) (s .pre) (c .below .ensures)
 
 pub add-spec : {M : Type 1} → statement M

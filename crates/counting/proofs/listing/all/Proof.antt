@@ -68,7 +68,10 @@ enum-known-verdict : tie.Need-enum-known-verdict
 enum-known-verdict c = search needs
 
 returns : tie.Need-returns
-returns c = let k = c .before .before .before in let a = k .before .before .before .args in all-refused (a .pattern) (a .text .now) (a .list .now) (sym (k .check-with .ensures) ∙ c .before .verdict .given .1)
+returns c =
+    let k = c .before .before .before in
+    let a = k .before .before .before .args in
+    all-refused (a .pattern) (a .text .now) (a .list .now) (sym (k .check-with .ensures) ∙ c .before .verdict .given .1)
 
 enum-told : tie.Need-enum-told
 enum-told c = search needs
@@ -100,14 +103,25 @@ slice-aggregate-put-all : tie.Need-slice-aggregate-put-all
 slice-aggregate-put-all c = search needs
 
 put-all-requires : tie.Need-put-all-requires
-put-all-requires c κs = let r = room-at c in let e = narrow-at (r .before) in let k = count-at (e .before) in let b = first k in let a = start b .args in
+put-all-requires c κs =
+    let r = room-at c in
+    let e = narrow-at (r .before) in
+    let k = count-at (e .before) in
+    let b = first k in
+    let a = start b .args in
     record { known = table (k .before); room = all-room (a .pattern) (a .text .now) (a .list .now) (ok b .pattern .some) (k .count .result) (number k) (e .if1 .left) (r .if2 .left) }
 
 same-length : tie.Need-same-length
 same-length c = search needs
 
 returns-4 : tie.Need-returns-4
-returns-4 c = let p = put-at c in let r = room-at (p .before) in let e = narrow-at (r .before) in let k = count-at (e .before) in let b = first k in let a = start b .args in
+returns-4 c =
+    let p = put-at c in
+    let r = room-at (p .before) in
+    let e = narrow-at (r .before) in
+    let k = count-at (e .before) in
+    let b = first k in
+    let a = start b .args in
     let some = ok b .pattern .some in let w = k .count .result in let n = number k in
     let room = all-room (a .pattern) (a .text .now) (a .list .now) some w n (e .if1 .left) (r .if2 .left) in
     all-fine (a .pattern) (a .text .now) (a .list .now) (accepted b) room (low-half (a .pattern) (a .text .now) (a .list .now) some w n (e .if1 .left))

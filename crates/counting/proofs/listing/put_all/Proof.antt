@@ -36,13 +36,17 @@ Given c = PutAll (c .args .f) (c .args .n) (c .args .fits .now) (length (c .args
 module _ (c : tie.Then1) (g : Given (start (c .before))) where
   abbrev putWhole : PutWhole (start (c .before) .args .f .count) (start (c .before) .args .n) (outline-at (c .before) .of .result .reach)
       (outline-at (c .before) .of .result .low) (outline-at (c .before) .of .result .high) (start (c .before) .args .fits .now) (length (start (c .before) .args .list .now))
-  putWhole = let o = outline-at (c .before) .of .ensures in record { plan = planned (g .known) o; spans = sym (o .spans) ∙ c .if1 .taken; room = g .room }
+  putWhole =
+      let o = outline-at (c .before) .of .ensures in
+      record { plan = planned (g .known) o; spans = sym (o .spans) ∙ c .if1 .taken; room = g .room }
 
 module _ (c : tie.Else1) (g : Given (start (c .before))) where
   abbrev putEach : PutEach (start (c .before) .args .f .count) (start (c .before) .args .n) (outline-at (c .before) .of .result .reach)
       (outline-at (c .before) .of .result .least) (outline-at (c .before) .of .result .span)
       (outline-at (c .before) .of .result .low) (outline-at (c .before) .of .result .high) (start (c .before) .args .fits .now) (length (start (c .before) .args .list .now))
-  putEach = let o = outline-at (c .before) .of .ensures in record { plan = planned (g .known) o; from = o .shortest; wide = o .widest; room = g .room }
+  putEach =
+      let o = outline-at (c .before) .of .ensures in
+      record { plan = planned (g .known) o; from = o .shortest; wide = o .widest; room = g .room }
 
 of-requires : tie.Need-of-requires
 of-requires c κs = c .before .before .pre .known .input .pattern

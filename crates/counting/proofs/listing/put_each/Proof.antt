@@ -1,6 +1,6 @@
 -- `counting::listing::put_each` meets its contract. The invariant: the occurrences with a first place passed stand in the list.
 use native.Mathlib.Omega.{arith}
-use Prim.Native.Nat.{_+_, _-_, _≤_, _<_}
+use Prim.Native.Nat.{_+_, _-_}
 use mathlib.Core.Path.{_≡_, refl, _∙_}
 use lib.ListN.{length}
 use Rattle.counting.specs.Steps.Listings.{PutEach}
@@ -80,7 +80,11 @@ clip-requires : tie.Need-clip-requires Inv-loop μ-loop
 clip-requires c κs = search needs
 
 add-t20 : tie.Need-add-t20 Inv-loop μ-loop
-add-t20 c = let t = turn-of c in let g = start (t .before) .pre .0 in let h = g .plan .handed .input .pattern in omega (arith, g .from, h .ordered, h .most, g .plan .handed .input .short)
+add-t20 c =
+    let t = turn-of c in
+    let g = start (t .before) .pre .0 in
+    let h = g .plan .handed .input .pattern in
+    omega (arith, g .from, h .ordered, h .most, g .plan .handed .input .short)
 
 reach-all-requires : tie.Need-reach-all-requires Inv-loop μ-loop
 reach-all-requires c κs = let k = c .before in let t = turn-of k in let b = start (t .before) in let g = b .pre .0 in
@@ -100,13 +104,18 @@ loop-less : tie.Need-loop-less Inv-loop μ-loop
 loop-less c = search needs
 
 loop-again : tie.Need-loop-again Inv-loop μ-loop
-loop-again c = let w = walk-at c in let k = clip-at (w .before) in let t = turn-of k in let v = t .before .loop .inv in let kept = w .walk .kept .1 .1 .1 .1 .1 .1 .1 .1 in (
-  reach-at (w .before) .reach-all .kept .1 .1 .1 .1 .1 .1 .0 ∙ v .0,
-  kept .0 ∙ v .1,
-  kept .1 .1 .0 ∙ v .2,
-  λ g. let h = g .plan .handed .input in let i = t .loop-test .taken in let e = from (w .before) g in let l = leads (w .before) g in
-      listing-more h (listing t g) i (g .wide) (k .clip .ensures) e l (g .room) (kept .1 .1 .0) (w .walk .ensures .0 (window-walk h (listing t g) i (g .wide) (k .clip .ensures) e l (g .room))),
-)
+loop-again c =
+    let w = walk-at c in
+    let k = clip-at (w .before) in
+    let t = turn-of k in
+    let v = t .before .loop .inv in
+    let kept = w .walk .kept .1 .1 .1 .1 .1 .1 .1 .1 in (
+      reach-at (w .before) .reach-all .kept .1 .1 .1 .1 .1 .1 .0 ∙ v .0,
+      kept .0 ∙ v .1,
+      kept .1 .1 .0 ∙ v .2,
+      λ g. let h = g .plan .handed .input in let i = t .loop-test .taken in let e = from (w .before) g in let l = leads (w .before) g in
+          listing-more h (listing t g) i (g .wide) (k .clip .ensures) e l (g .room) (kept .1 .1 .0) (w .walk .ensures .0 (window-walk h (listing t g) i (g .wide) (k .clip .ensures) e l (g .room))),
+    )
 
 add-i-2 : tie.Need-add-i-2 Inv-loop μ-loop
 add-i-2 c = search needs

@@ -1,6 +1,6 @@
 -- `counting::listing::put_whole` meets its contract: the table of all places leads through all occurrences.
 use native.Mathlib.Omega.{arith}
-use mathlib.Core.Path.{refl, _∙_}
+use mathlib.Core.Path.{refl}
 use lib.ListN.{length}
 use Rattle.counting.specs.Steps.Listings.{PutWhole}
 use Rattle.counting.specs.Steps.Plans.{planPattern, planView}
@@ -45,7 +45,9 @@ slice-aggregate-walk : tie.Need-slice-aggregate-walk
 slice-aggregate-walk c = search needs
 
 walk-requires : tie.Need-walk-requires
-walk-requires c κs = let g = entry c .pre .0 in (all-walk (g .plan .handed .input) (g .spans) (entry c .args .list .now) (leads c g) (g .room), refl)
+walk-requires c κs =
+    let g = entry c .pre .0 in
+    (all-walk (g .plan .handed .input) (g .spans) (entry c .args .list .now) (leads c g) (g .room), refl)
 
 same-length : tie.Need-same-length
 same-length c = search needs

@@ -77,7 +77,10 @@ near : (c : tie.After-widen2 Inv-loop μ-loop) → turn c .before .loop .r ≤ 9
 near c = let g = run (entry (turn c .before)) in stage-small (g .plan .handed .input .pattern) (table (turn c) g .here) .0
 
 back : (c : tie.After-widen2 Inv-loop μ-loop) → (c .widen2 .result ≤ turn c .before .loop .r) × (1 ≤ turn c .before .loop .r - c .widen2 .result)
-back c = let g = run (entry (turn c .before)) in let b = reach-back (table (turn c) g .here) (turn c .loop-test .taken) (high c g) in (b .0, b .1)
+back c =
+    let g = run (entry (turn c .before)) in
+    let b = reach-back (table (turn c) g .here) (turn c .loop-test .taken) (high c g) in
+    (b .0, b .1)
 
 sub-j : tie.Need-sub-j Inv-loop μ-loop
 sub-j c = let s = small (c .before .before .before .before) in omega arith
@@ -109,16 +112,31 @@ mul-widen : tie.Need-mul-widen Inv-loop μ-loop
 mul-widen c = let b = entry (c .before) in let s = small b in let i = table c (run b) .here .inside in omega arith
 
 shared-slice-read-widen : tie.Need-shared-slice-read-widen Inv-loop μ-loop
-shared-slice-read-widen c = let i = c .before in let b = entry (i .before) in let s = small b in let h = table i (run b) .here .inside in omega arith
+shared-slice-read-widen c =
+    let i = c .before in
+    let b = entry (i .before) in
+    let s = small b in
+    let h = table i (run b) .here .inside in
+    omega arith
 
 widen-requires : tie.Need-widen-requires Inv-loop μ-loop
 widen-requires c κs = search needs
 
 mul-widen-2 : tie.Need-mul-widen-2 Inv-loop μ-loop
-mul-widen-2 c = let i = c .before .before in let b = entry (i .before) in let s = small b in let h = table i (run b) .here .inside in omega arith
+mul-widen-2 c =
+    let i = c .before .before in
+    let b = entry (i .before) in
+    let s = small b in
+    let h = table i (run b) .here .inside in
+    omega arith
 
 shared-slice-read-widen-2 : tie.Need-shared-slice-read-widen-2 Inv-loop μ-loop
-shared-slice-read-widen-2 c = let i = c .before .before .before in let b = entry (i .before) in let s = small b in let h = table i (run b) .here .inside in omega arith
+shared-slice-read-widen-2 c =
+    let i = c .before .before .before in
+    let b = entry (i .before) in
+    let s = small b in
+    let h = table i (run b) .here .inside in
+    omega arith
 
 widen-requires-2 : tie.Need-widen-requires-2 Inv-loop μ-loop
 widen-requires-2 c κs = search needs
@@ -139,16 +157,34 @@ clip-requires-2 : tie.Need-clip-requires-2 Inv-loop μ-loop
 clip-requires-2 c κs = search needs
 
 mul-reach-on : tie.Need-mul-reach-on Inv-loop μ-loop
-mul-reach-on c = let h = high-at c in let s = small (entry (turn h .before)) in let i = inside h (run (entry (turn h .before))) in omega arith
+mul-reach-on c =
+    let h = high-at c in
+    let s = small (entry (turn h .before)) in
+    let i = inside h (run (entry (turn h .before))) in
+    omega arith
 
 add-reach-on : tie.Need-add-reach-on Inv-loop μ-loop
-add-reach-on c = let h = high-at c in let s = small (entry (turn h .before)) in let i = inside h (run (entry (turn h .before))) in omega arith
+add-reach-on c =
+    let h = high-at c in
+    let s = small (entry (turn h .before)) in
+    let i = inside h (run (entry (turn h .before))) in
+    omega arith
 
 mul-reach-on-2 : tie.Need-mul-reach-on-2 Inv-loop μ-loop
-mul-reach-on-2 c = let h = high-at c in let s = small (entry (turn h .before)) in let i = inside h (run (entry (turn h .before))) in omega arith
+mul-reach-on-2 c =
+    let h = high-at c in
+    let s = small (entry (turn h .before)) in
+    let i = inside h (run (entry (turn h .before))) in
+    omega arith
 
 reach-on-requires : tie.Need-reach-on-requires Inv-loop μ-loop
-reach-on-requires c κs = let k = c .before in let h = high-at k in let b = entry (turn h .before) in let g = run b in let s = small b in let i = inside h g in
+reach-on-requires c κs =
+    let k = c .before in
+    let h = high-at k in
+    let b = entry (turn h .before) in
+    let g = run b in
+    let s = small b in
+    let i = inside h g in
     let less = size-less (table (turn h) g .here) (turn h .loop-test .taken) (high h g) (k .clip2 .ensures) in
     let gap = run-gap g i (low-at h .widen .ensures .0) (h .widen2 .ensures .0) in
     let pos = turn h .loop-test .taken in

@@ -74,7 +74,9 @@ loop-less : tie.Need-loop-less Inv-loop μ-loop
 loop-less c = search needs
 
 loop-again : tie.Need-loop-again Inv-loop μ-loop
-loop-again c = let a = (c .before .before .before .before .before .before .before .before .before .before .args) in reach-here (c .before .before .before .before .before .before .before .loop .inv) (c .before .before .before .before .before .before .loop-test .taken) (omega (arith, c .before .before .before .before .before .before .before .before .before .before .pre .3, c .before .before .before .before .before .before .before .before .before .before .pre .5)) (lead (a .fits .now) (a .at) (a .low) (a .high) (a .m) (c .before .before .before .before .before .before .before .loop .inv) (c .before .before .before .before .before .before .before .before .before .before .pre .3) (c .before .holds .ensures) (c .before .before .widen .ensures .0) (c .before .before .before .before .before .clip .ensures)) (c .if1 .taken)
+loop-again c =
+    let a = (c .before .before .before .before .before .before .before .before .before .before .args) in
+    reach-here (c .before .before .before .before .before .before .before .loop .inv) (c .before .before .before .before .before .before .loop-test .taken) (omega (arith, c .before .before .before .before .before .before .before .before .before .before .pre .3, c .before .before .before .before .before .before .before .before .before .before .pre .5)) (lead (a .fits .now) (a .at) (a .low) (a .high) (a .m) (c .before .before .before .before .before .before .before .loop .inv) (c .before .before .before .before .before .before .before .before .before .before .pre .3) (c .before .holds .ensures) (c .before .before .widen .ensures .0) (c .before .before .before .before .before .clip .ensures)) (c .if1 .taken)
 
 mul-next-2 : tie.Need-mul-next-2 Inv-loop μ-loop
 mul-next-2 c = omega (arith, c .before .before .before .before .before .before .before .loop .inv .inside, c .before .before .before .before .before .before .before .loop .inv .long)
@@ -86,7 +88,9 @@ loop-less-2 : tie.Need-loop-less-2 Inv-loop μ-loop
 loop-less-2 c = search needs
 
 loop-again-2 : tie.Need-loop-again-2 Inv-loop μ-loop
-loop-again-2 c = let a = (c .before .before .before .before .before .before .before .before .before .before .args) in reach-later (c .before .before .before .before .before .before .before .loop .inv) (c .before .before .before .before .before .before .loop-test .taken) (omega (arith, c .before .before .before .before .before .before .before .before .before .before .pre .3, c .before .before .before .before .before .before .before .before .before .before .pre .5)) (lead (a .fits .now) (a .at) (a .low) (a .high) (a .m) (c .before .before .before .before .before .before .before .loop .inv) (c .before .before .before .before .before .before .before .before .before .before .pre .3) (c .before .holds .ensures) (c .before .before .widen .ensures .0) (c .before .before .before .before .before .clip .ensures)) (c .if1 .left)
+loop-again-2 c =
+    let a = (c .before .before .before .before .before .before .before .before .before .before .args) in
+    reach-later (c .before .before .before .before .before .before .before .loop .inv) (c .before .before .before .before .before .before .loop-test .taken) (omega (arith, c .before .before .before .before .before .before .before .before .before .before .pre .3, c .before .before .before .before .before .before .before .before .before .before .pre .5)) (lead (a .fits .now) (a .at) (a .low) (a .high) (a .m) (c .before .before .before .before .before .before .before .loop .inv) (c .before .before .before .before .before .before .before .before .before .before .pre .3) (c .before .holds .ensures) (c .before .before .widen .ensures .0) (c .before .before .before .before .before .clip .ensures)) (c .if1 .left)
 
 add-d-2 : tie.Need-add-d-2 Inv-loop μ-loop
 add-d-2 c = omega (arith, c .before .loop .inv .long)

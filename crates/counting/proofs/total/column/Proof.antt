@@ -37,7 +37,9 @@ slice-aggregate-whole-2 : tie.Need-slice-aggregate-whole-2
 slice-aggregate-whole-2 c = search needs
 
 whole-requires : tie.Need-whole-requires
-whole-requires c κs = let h = unbound-at c .before in (planned (start h .pre .0) (outline-at h .of .ensures), start h .pre .1)
+whole-requires c κs =
+    let h = unbound-at c .before in
+    (planned (start h .pre .0) (outline-at h .of .ensures), start h .pre .1 .room)
 
 same-length : tie.Need-same-length
 same-length c = whole-at c .whole .kept .1 .1 .1 .1 .1 .1 .0
@@ -55,7 +57,11 @@ slice-aggregate-each-2 : tie.Need-slice-aggregate-each-2
 slice-aggregate-each-2 c = search needs
 
 each-requires : tie.Need-each-requires
-each-requires c κs = let h = bound-at c .before in let o = outline-at h .of .ensures in let k = start h .pre .0 in let ok = k .input .pattern in
+each-requires c κs =
+    let h = bound-at c .before in
+    let o = outline-at h .of .ensures in
+    let k = start h .pre .0 in
+    let ok = k .input .pattern in
     (planned k o, (start h .pre .1, (omega (arith, o .shortest, ok .ordered, ok .most), span-some ok (o .widest), span-few ok (o .widest))))
 
 same-length-3 : tie.Need-same-length-3

@@ -19,8 +19,11 @@ abbrev μ-loop : tie.MeasureT-loop
 
 -- ---- the places of the body, from each back to one before
 
+abbrev start-of : tie.After-slice-known2 Inv-loop μ-loop → tie.Start Inv-loop μ-loop
+start-of c = c .before .before .before .before .before
+
 abbrev start : tie.At-loop Inv-loop μ-loop → tie.Start Inv-loop μ-loop
-start c = c .before .before .before .before .before .before
+start c = start-of (c .before)
 
 abbrev turn : tie.After-shared-slice-known4 Inv-loop μ-loop → tie.At-loop Inv-loop μ-loop
 turn c = c .before .before
@@ -35,7 +38,7 @@ abbrev ways-at : tie.After-y2 Inv-loop μ-loop → tie.After-ways Inv-loop μ-lo
 ways-at c = c .before .before
 
 loop-holds : tie.Need-loop-holds Inv-loop μ-loop
-loop-holds c = (refl, refl, search needs, refl, refl, λ g el es. filling-begin)
+loop-holds c = (refl, refl, search needs, refl, refl, λ g el es. filling-begin (start-of c .pre .1 .0))
 
 shared-slice-read-if1 : tie.Need-shared-slice-read-if1 Inv-loop μ-loop
 shared-slice-read-if1 c = let g = start (turn c) .pre .0 in omega (arith, g .handed .table .size, g .handed .input .short)
@@ -56,7 +59,12 @@ slice-aggregate-ways-2 : tie.Need-slice-aggregate-ways-2 Inv-loop μ-loop
 slice-aggregate-ways-2 c = search needs
 
 ways-requires : tie.Need-ways-requires Inv-loop μ-loop
-ways-requires c κs = let k = clip-at c in let l = loop-of k in let b = start l in let z = b .pre .1 .1 in let i = k .before .before .before .loop-test .taken in
+ways-requires c κs =
+    let k = clip-at c in
+    let l = loop-of k in
+    let b = start l in
+    let z = b .pre .1 .1 in
+    let i = k .before .before .before .loop-test .taken in
     (startRun (b .pre .0) i (z .1) (k .clip .ensures), record { high = omega (arith, k .clip .ensures, l .loop .inv .0, z .2); low = omega (arith, k .clip .ensures, l .loop .inv .1, z .2) })
 
 array-read-hi : tie.Need-array-read-hi Inv-loop μ-loop
@@ -84,27 +92,21 @@ loop-less : tie.Need-loop-less Inv-loop μ-loop
 loop-less c = search needs
 
 loop-again : tie.Need-loop-again Inv-loop μ-loop
-loop-again c = let u = ways-at c in let k = clip-at (u .before) in let l = loop-of k in let b = start l in let z = b .pre .1 .1 in let i = k .before .before .before .loop-test .taken in
+loop-again c =
+    let u = ways-at c in
+    let k = clip-at (u .before) in
+    let l = loop-of k in
+    let b = start l in
+    let z = b .pre .1 .1 in
+    let i = k .before .before .before .loop-test .taken in
     let v = l .loop .inv in (
       u .ways .kept .1 .1 .1 .1 .1 .1 .0 ∙ v .0,
       u .ways .kept .1 .1 .1 .1 .1 .1 .1 .0 ∙ v .1,
       search needs,
       search needs,
       search needs,
-      λ g el es. filling-more (v .5 g el es) (g .handed .input) (b .pre .1 .0) i es (z .1) (k .clip .ensures) (omega (arith, el)) (u .ways .ensures (startRun g i (z .1) (k .clip .ensures))),
+      λ g el es. filling-more (v .5 g el es) (g .handed .input) (b .pre .1 .0 .room) i es (z .1) (k .clip .ensures) (omega (arith, el)) (u .ways .ensures (startRun g i (z .1) (k .clip .ensures))),
     )
-
-mul-hi-2 : tie.Need-mul-hi-2 Inv-loop μ-loop
-mul-hi-2 c = search needs
-
-slice-write-hi-2 : tie.Need-slice-write-hi-2 Inv-loop μ-loop
-slice-write-hi-2 c = search needs
-
-mul-lo-2 : tie.Need-mul-lo-2 Inv-loop μ-loop
-mul-lo-2 c = search needs
-
-slice-write-lo-2 : tie.Need-slice-write-lo-2 Inv-loop μ-loop
-slice-write-lo-2 c = search needs
 
 add-i-2 : tie.Need-add-i-2 Inv-loop μ-loop
 add-i-2 c = search needs
@@ -114,7 +116,7 @@ loop-less-2 c = search needs
 
 loop-again-2 : tie.Need-loop-again-2 Inv-loop μ-loop
 loop-again-2 c = let l = turn (c .before) in let v = l .loop .inv in let i = c .before .before .loop-test .taken in
-    (v .0, v .1, search needs, search needs, search needs, λ g el es. filling-skip (v .5 g el es) (g .handed .input) (start l .pre .1 .0) i (g .handed .table) (c .if1 .left))
+    (v .0, v .1, search needs, search needs, search needs, λ g el es. filling-skip (v .5 g el es) (g .handed .input) (start l .pre .1 .0 .room) i (g .handed .table) (c .if1 .left))
 
 same-length : tie.Need-same-length Inv-loop μ-loop
 same-length c = c .before .loop .inv .3
@@ -148,10 +150,6 @@ each-spec =
     add-i
     loop-less
     loop-again
-    mul-hi-2
-    slice-write-hi-2
-    mul-lo-2
-    slice-write-lo-2
     add-i-2
     loop-less-2
     loop-again-2

@@ -41,7 +41,9 @@ shared-slice-read-t13 c = search needs
 
 add-requires : tie.Need-add-requires Inv-loop μ-loop
 unfolding val
-add-requires c κs = let i = turn c in total-inside _ _ (i .before .loop .i) (i .before .loop .inv .1) (i .loop-test .taken) (start (i .before) .pre .1)
+add-requires c κs =
+    let i = turn c in
+    total-inside _ _ (i .before .loop .i) (i .before .loop .inv .1) (i .loop-test .taken) (start (i .before) .pre .1)
 
 add-i : tie.Need-add-i Inv-loop μ-loop
 add-i c = search needs
@@ -51,7 +53,9 @@ loop-less c = search needs
 
 loop-again : tie.Need-loop-again Inv-loop μ-loop
 unfolding val
-loop-again c = let i = turn (c .before) in (search needs, c .add .ensures ∙ total-more _ _ (i .before .loop .i) (i .before .loop .inv .1) (i .loop-test .taken))
+loop-again c =
+    let i = turn (c .before) in
+    (search needs, c .add .ensures ∙ total-more _ _ (i .before .loop .i) (i .before .loop .inv .1) (i .loop-test .taken))
 
 returns : tie.Need-returns Inv-loop μ-loop
 returns c = let l = c .before .loop in let e : start (c .before) .args .n ≡ l .i = omega arith in rw e (l .inv .1)

@@ -64,10 +64,14 @@ count-requires : tie.Need-count-requires
 count-requires c κs = table c
 
 returns-2 : tie.Need-returns-2
-returns-2 c = let k = count-at (c .before) in tally-over (accepted (table-at (k .before) .before)) (k .count .result) (k .count .ensures (table (k .before))) (c .if1 .taken)
+returns-2 c =
+    let k = count-at (c .before) in
+    tally-over (accepted (table-at (k .before) .before)) (k .count .result) (k .count .ensures (table (k .before))) (c .if1 .taken)
 
 returns-3 : tie.Need-returns-3
-returns-3 c = let k = count-at (c .before) in tally-fine (accepted (table-at (k .before) .before)) (k .count .result) (k .count .ensures (table (k .before))) (k .count .ok .1 .1 .1 .0 .1) (c .if1 .left)
+returns-3 c =
+    let k = count-at (c .before) in
+    tally-fine (accepted (table-at (k .before) .before)) (k .count .result) (k .count .ensures (table (k .before))) (k .count .ok .1 .1 .1 .0 .1) (c .if1 .left)
 
 pub tally-spec : {M : Type 1} → statement M
 tally-spec =

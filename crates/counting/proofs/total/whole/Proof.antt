@@ -1,6 +1,5 @@
 -- `counting::total::whole` meets its contract: the first slot's row over all places is the column.
 use Rattle.counting.proofs.Columns.{allRun, column-all}
-use borrow.Author.Needs.{needs}
 use Rattle.counting.proofs.total.whole.Statement.{statement}
 use Rattle.counting.proofs.total.whole.Tie as tie
 

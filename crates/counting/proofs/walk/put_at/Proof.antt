@@ -28,7 +28,10 @@ same-length : tie.Need-same-length
 same-length c = search needs
 
 returns : tie.Need-returns
-returns c = let start = c .before .before .before .before .before .before in let a = start .args in row-pasted (a .list .now) (a .k * a .m) (omega (arith, start .pre .1)) (a .row .now) (c .before .before .put-row .last .0) (a .m) (start .pre .0) (start .pre .1) (c .before .before .put-row .ensures)
+returns c =
+    let start = c .before .before .before .before .before .before in
+    let a = start .args in
+    row-pasted (a .list .now) (a .k * a .m) (omega (arith, start .pre .1)) (a .row .now) (c .before .before .put-row .last .0) (a .m) (start .pre .0) (start .pre .1) (c .before .before .put-row .ensures)
 
 pub put-at-spec : {M : Type 1} → statement M
 put-at-spec =

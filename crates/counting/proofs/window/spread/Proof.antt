@@ -65,7 +65,8 @@ slice-read-t22-2 c = search needs
 
 sub-requires : tie.Need-sub-requires Inv-loop μ-loop
 unfolding val
-sub-requires c κs = let b = c .before .before .before .before .before .before .before .before .before .before .before .before .before .pre in
+sub-requires c κs =
+    let b = c .before .before .before .before .before .before .before .before .before .before .before .before .before .pre in
     let l = c .before .before .before .before .before .before .before .before .before .loop .inv in
     let x = c .before .before .before .before .before .before .before .before .loop-test .taken in
     let g = b .1 .1 in
@@ -91,7 +92,8 @@ loop-less c = search needs
 
 loop-again : tie.Need-loop-again Inv-loop μ-loop
 unfolding val
-loop-again c = let b = c .before .before .before .before .before .before .before .before .before .before .before .before .before .before .pre in
+loop-again c =
+    let b = c .before .before .before .before .before .before .before .before .before .before .before .before .before .before .pre in
     let l = c .before .before .before .before .before .before .before .before .before .before .loop .inv in
     let x = c .before .before .before .before .before .before .before .before .before .loop-test .taken in
     let g = b .1 .1 in

@@ -5,8 +5,7 @@ use mathlib.Core.Path.{_≡_, refl, _∙_}
 use lib.ListN.{length}
 use Rattle.pattern.specs.Patterns.{slotAt}
 use Rattle.counting.specs.Steps.Plans.{Run, runPattern, runView}
-use Rattle.counting.specs.Steps.Rows.{Room}
-use Rattle.counting.proofs.Counting.{Small, run-small, run-low, run-high, run-gap, reach-back, stage-back, size-less, stage-small, stage-begin, Counting, counting-begin, counting-room, counting-summable, counting-falling, counting-more, counted, room-less}
+use Rattle.counting.proofs.Counting.{Small, run-small, run-low, run-high, run-gap, reach-back, size-less, stage-small, Counting, counting-begin, counting-room, counting-summable, counting-falling, counting-more, counted, room-less}
 use borrow.Author.Needs.{needs}
 use Rattle.counting.proofs.window.ways.Statement.{statement}
 use Rattle.counting.proofs.window.ways.Tie as tie
@@ -84,7 +83,10 @@ near : (c : tie.After-widen2 Inv-loop μ-loop) → turn c .before .loop .r ≤ 9
 near c = let g = run (entry (turn c .before)) in stage-small (g .plan .handed .input .pattern) (row (turn c) g .here) .0
 
 back : (c : tie.After-widen2 Inv-loop μ-loop) → (c .widen2 .result ≤ turn c .before .loop .r) × (1 ≤ turn c .before .loop .r - c .widen2 .result)
-back c = let g = run (entry (turn c .before)) in let b = reach-back (row (turn c) g .here) (turn c .loop-test .taken) (high c g) in (b .0, b .1)
+back c =
+    let g = run (entry (turn c .before)) in
+    let b = reach-back (row (turn c) g .here) (turn c .loop-test .taken) (high c g) in
+    (b .0, b .1)
 
 sub-j : tie.Need-sub-j Inv-loop μ-loop
 sub-j c = let s = small (c .before .before .before .before .before) in omega arith
@@ -102,7 +104,12 @@ add-ends : tie.Need-add-ends Inv-loop μ-loop
 add-ends c = let s = small (start (c .before)) in omega arith
 
 ends-requires : tie.Need-ends-requires Inv-loop μ-loop
-ends-requires c κs = let k = clip-at c in let b = start (k .before) in let s = small b in let n = short k in (room-less (b .pre .1) n refl refl, (omega arith, omega arith, omega arith))
+ends-requires c κs =
+    let k = clip-at c in
+    let b = start (k .before) in
+    let s = small b in
+    let n = short k in
+    (room-less (b .pre .1) n refl refl, (omega arith, omega arith, omega arith))
 
 loop-holds : tie.Need-loop-holds Inv-loop μ-loop
 loop-holds c = (
@@ -116,16 +123,30 @@ mul-widen : tie.Need-mul-widen Inv-loop μ-loop
 mul-widen c = let b = entry (c .before) in let s = small b in let i = row c (run b) .here .inside in omega arith
 
 shared-slice-read-widen : tie.Need-shared-slice-read-widen Inv-loop μ-loop
-shared-slice-read-widen c = let b = entry (c .before .before) in let s = small b in let i = row (c .before) (run b) .here .inside in omega arith
+shared-slice-read-widen c =
+    let b = entry (c .before .before) in
+    let s = small b in
+    let i = row (c .before) (run b) .here .inside in
+    omega arith
 
 widen-requires : tie.Need-widen-requires Inv-loop μ-loop
 widen-requires c κs = search needs
 
 mul-widen-2 : tie.Need-mul-widen-2 Inv-loop μ-loop
-mul-widen-2 c = let i = c .before .before in let b = entry (i .before) in let s = small b in let h = row i (run b) .here .inside in omega arith
+mul-widen-2 c =
+    let i = c .before .before in
+    let b = entry (i .before) in
+    let s = small b in
+    let h = row i (run b) .here .inside in
+    omega arith
 
 shared-slice-read-widen-2 : tie.Need-shared-slice-read-widen-2 Inv-loop μ-loop
-shared-slice-read-widen-2 c = let i = c .before .before .before in let b = entry (i .before) in let s = small b in let h = row i (run b) .here .inside in omega arith
+shared-slice-read-widen-2 c =
+    let i = c .before .before .before in
+    let b = entry (i .before) in
+    let s = small b in
+    let h = row i (run b) .here .inside in
+    omega arith
 
 widen-requires-2 : tie.Need-widen-requires-2 Inv-loop μ-loop
 widen-requires-2 c κs = search needs
@@ -146,27 +167,57 @@ clip-requires-2 : tie.Need-clip-requires-2 Inv-loop μ-loop
 clip-requires-2 c κs = search needs
 
 sums-requires : tie.Need-sums-requires Inv-loop μ-loop
-sums-requires c κs = let h = high-at (clip2-at c) in let b = entry (turn h .before) in let g = run b in let r = row (turn h) g in let ok = g .plan .handed .input in
+sums-requires c κs =
+    let h = high-at (clip2-at c) in
+    let b = entry (turn h .before) in
+    let g = run b in
+    let r = row (turn h) g in
+    let ok = g .plan .handed .input in
     (counting-room r ok (g .inside), counting-summable r ok (g .inside))
 
 mul-spread : tie.Need-mul-spread Inv-loop μ-loop
-mul-spread c = let h = high-at (clip2-at (sums-at c .before)) in let s = small (entry (turn h .before)) in let i = inside h (run (entry (turn h .before))) in omega arith
+mul-spread c =
+    let h = high-at (clip2-at (sums-at c .before)) in
+    let s = small (entry (turn h .before)) in
+    let i = inside h (run (entry (turn h .before))) in
+    omega arith
 
 add-spread : tie.Need-add-spread Inv-loop μ-loop
-add-spread c = let h = high-at (clip2-at (sums-at c .before)) in let s = small (entry (turn h .before)) in let i = inside h (run (entry (turn h .before))) in omega arith
+add-spread c =
+    let h = high-at (clip2-at (sums-at c .before)) in
+    let s = small (entry (turn h .before)) in
+    let i = inside h (run (entry (turn h .before))) in
+    omega arith
 
 spread-requires : tie.Need-spread-requires Inv-loop μ-loop
-spread-requires c κs = let u = sums-at (c .before .before) in let k = clip2-at (u .before) in let h = high-at k in let b = entry (turn h .before) in let g = run b in
-    let r = row (turn h) g in let ok = g .plan .handed .input in let s = small b in let i = inside h g in let pos = turn h .loop-test .taken in
-    let less = size-less (r .here) pos (high h g) (k .clip2 .ensures) in let gap = run-gap g i (low-at h .widen .ensures .0) (h .widen2 .ensures .0) in
+spread-requires c κs =
+    let u = sums-at (c .before .before) in
+    let k = clip2-at (u .before) in
+    let h = high-at k in
+    let b = entry (turn h .before) in
+    let g = run b in
+    let r = row (turn h) g in
+    let ok = g .plan .handed .input in
+    let s = small b in
+    let i = inside h g in
+    let pos = turn h .loop-test .taken in
+    let less = size-less (r .here) pos (high h g) (k .clip2 .ensures) in
+    let gap = run-gap g i (low-at h .widen .ensures .0) (h .widen2 .ensures .0) in
     (room-less (counting-room r ok (g .inside)) (omega arith) (u .sums .kept .1 .0) (u .sums .kept .1 .1 .0), (counting-falling r ok (g .inside) (u .sums .ensures), (omega arith, gap .0, omega arith, less .0, omega arith)))
 
 loop-less : tie.Need-loop-less Inv-loop μ-loop
 loop-less c = search needs
 
 loop-again : tie.Need-loop-again Inv-loop μ-loop
-loop-again c = let p = spread-at c in let u = sums-at (p .before .before .before) in let k = clip2-at (u .before) in let h = high-at k in let l = turn h .before .loop in
-    let kept = p .spread .kept .1 .1 .1 .1 .1 .1 in let hi = kept .0 ∙ u .sums .kept .1 .0 in let lo = kept .1 .0 ∙ u .sums .kept .1 .1 .0 in (
+loop-again c =
+    let p = spread-at c in
+    let u = sums-at (p .before .before .before) in
+    let k = clip2-at (u .before) in
+    let h = high-at k in
+    let l = turn h .before .loop in
+    let kept = p .spread .kept .1 .1 .1 .1 .1 .1 in
+    let hi = kept .0 ∙ u .sums .kept .1 .0 in
+    let lo = kept .1 .0 ∙ u .sums .kept .1 .1 .0 in (
       hi ∙ l .inv .0,
       lo ∙ l .inv .1,
       λ g. counting-more (row (turn h) g) (g .plan .handed .input) (g .inside) (u .sums .ensures) (turn h .loop-test .taken) (low h g) (high h g) (k .clip2 .ensures) (g .plan .handed .table)

@@ -31,7 +31,10 @@ most : (c : tie.After-distance2) → c .distance2 .result ≡ far (start (low-at
 most c = c .distance2 .ensures ∙ bounds-distance (bounds-at (low-at c) .bounds2 .ensures) (start (low-at c) .pre .some)
 
 few : (c : tie.After-distance2) → c .distance2 .result ≤ 960
-few c = let ok = start (low-at c) .pre in let some = ok .some in omega (arith, most c, far-bound ok (start (low-at c) .args .f .count - 1) (omega arith))
+few c =
+    let ok = start (low-at c) .pre in
+    let some = ok .some in
+    omega (arith, most c, far-bound ok (start (low-at c) .args .f .count - 1) (omega arith))
 
 bounds-requires : tie.Need-bounds-requires
 bounds-requires c κs = c .pre .few
@@ -43,13 +46,19 @@ slice-aggregate-distance : tie.Need-slice-aggregate-distance
 slice-aggregate-distance c = search needs
 
 distance-requires : tie.Need-distance-requires
-distance-requires c κs = let b = c .before in let ok = b .before .before .pre in (ok .some, ok .few, b .before .bounds .ensures .long)
+distance-requires c κs =
+    let b = c .before in
+    let ok = b .before .before .pre in
+    (ok .some, ok .few, b .before .bounds .ensures .long)
 
 slice-aggregate-distance-2 : tie.Need-slice-aggregate-distance-2
 slice-aggregate-distance-2 c = search needs
 
 distance-requires-2 : tie.Need-distance-requires-2
-distance-requires-2 c κs = let b = bounds-at (c .before) in let ok = start (c .before) .pre in (ok .some, ok .few, b .bounds2 .ensures .long)
+distance-requires-2 c κs =
+    let b = bounds-at (c .before) in
+    let ok = start (c .before) .pre in
+    (ok .some, ok .few, b .bounds2 .ensures .long)
 
 widen-requires : tie.Need-widen-requires
 widen-requires c κs = search needs
