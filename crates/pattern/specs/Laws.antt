@@ -2,4 +2,3 @@
 pub mod Members
 pub mod Slots
 pub mod Accepting
-pub mod Arrays

@@ -10,15 +10,16 @@ use Rattle.pattern.specs.declared.Pattern.{Pattern}
 use Rattle.pattern.specs.Patterns.{member, takes}
 use Rattle.pattern.specs.Accepted.{Accepted}
 use Rattle.matching.specs.Occurrence.{plain, Occurs}
-use Rattle.matching.specs.Collections.{keep, select}
+use Rattle.basics.specs.Collections.{keep, select}
 use Rattle.matching.specs.Occurrences.{within, each, occursIn, places, occurrences}
 use Rattle.matching.specs.Rows.{level, before, meet, join}
 use Rattle.matching.specs.Searches.{nearest, extreme, earliestOf, latestOf}
 use Rattle.matching.specs.Lists.{onward, follow, leftmostIn, rightmostIn}
 use Rattle.matching.specs.Texts.{oneWord, patternOf, text-one, text-three, text-four, text-five, text-six, text-seven, text-eight, pattern-one, pattern-two, pattern-three, pattern-four, pattern-five, pattern-six, pattern-seven, pattern-eight, Results, Nothing, NineTexts}
 use Rattle.matching.specs.Laws.Tests.{occurs-iff}
-use Rattle.matching.specs.Laws.Sums.{gather}
-use Rattle.matching.specs.Laws.Branches.{only, stands, branches, tree, forest}
+use Rattle.basics.specs.Sums.{gather}
+use Rattle.basics.specs.Choice.{only}
+use Rattle.matching.specs.Laws.Branches.{stands, branches, tree, forest}
 use Rattle.matching.specs.Laws.Cover.{distance, width, limit, least, occurrences-each}
 use Rattle.matching.specs.Laws.Extremes.{earliest-none, latest-none}
 
