@@ -65,7 +65,7 @@ pub fn read_both(pattern: &[u8], text: &[u8], room: usize) -> Result<(Pattern, V
 }
 
 /// The pattern in a pattern file, or beside a refusal a new pattern.
-pub fn made_from_sheet(bytes: &[u8]) -> Made {
+pub fn made_from_file(bytes: &[u8]) -> Made {
     match read_pattern(bytes) {
         Ok(pattern) => Made { number: 0, place: 0, pattern },
         Err(refusal) => Made { number: refusal.number, place: refusal.place, pattern: pattern_of(1, 20_000) },
@@ -73,7 +73,7 @@ pub fn made_from_sheet(bytes: &[u8]) -> Made {
 }
 
 /// Writes the words in a text file to the start of `words`.
-pub fn words_from_sheet(bytes: &[u8], words: &mut [u16]) -> Answer {
+pub fn words_from_file(bytes: &[u8], words: &mut [u16]) -> Answer {
     let read = read_text(bytes, words.len());
     if let Ok(read) = &read {
         words[..read.len()].copy_from_slice(read);
@@ -83,7 +83,7 @@ pub fn words_from_sheet(bytes: &[u8], words: &mut [u16]) -> Answer {
 
 /// The pattern in a pattern file, the words in a text file written to the start of `words`; beside a refusal a new
 /// pattern, no words, and nothing written.
-pub fn both_from_sheets(pattern: &[u8], text: &[u8], words: &mut [u16]) -> ReadBoth {
+pub fn both_from_files(pattern: &[u8], text: &[u8], words: &mut [u16]) -> ReadBoth {
     match read_both(pattern, text, words.len()) {
         Ok((pattern, read)) => {
             words[..read.len()].copy_from_slice(&read);
