@@ -20,3 +20,4 @@ pub mod Texts
 pub mod Mirror
 pub mod Turning
 pub mod Ready
+pub mod Stated

@@ -2,3 +2,4 @@
 pub mod Members
 pub mod Slots
 pub mod Accepting
+pub mod Stated
