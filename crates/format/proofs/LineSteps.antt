@@ -83,7 +83,7 @@ open-line h e = record { is = h .is; last = h .last e }
 pub closed-line : {s : List ℕ} {at : ℕ} {l : Line} → Lined s at l → (l .end ≡ l .next → ⊥) → Closed s at l
 closed-line h e = record { is = h .is; inside = h .after e .0; after = h .after e .1 }
 
-cut-within : (t : List ℕ) (sep : ℕ) → cut t sep ≤ length t
+pub cut-within : (t : List ℕ) (sep : ℕ) → cut t sep ≤ length t
 unfolding cut
 cut-within [] sep = omega arith
 cut-within (b ∷ t) sep = go (eqb b sep) (cut-within t sep)
