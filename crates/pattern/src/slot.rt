@@ -77,13 +77,10 @@ impl Slot {
     pub fn with_gap(self, low: u16, high: u16) -> Self
         ensures { λ r. ⌜ r ≡ withGap self low high ⌝ }
     {
-        let words = self.words;
-        Slot {
-            words,
-            count: self.count,
-            low,
-            high,
-        }
+        let mut slot = self;
+        slot.low = low;
+        slot.high = high;
+        slot
     }
 
     // The slot as eleven numbers: the two bounds of its gap, how many words it lists, and its eight words.
