@@ -1,8 +1,17 @@
 /*
  * Bedbloomer for C, and for Rust by the same declarations: link libbindings.a (rt staticlib bindings).
  *
- * A slice is a pointer and how many entries it has; with 0 entries the pointer is not read, but it must not be null.
- * Every call answers for any values; `number` is the refusal's number (README.md, "Refusals"), 0 where nothing is refused.
+ * A slice is a pointer and how many entries it has. Every call answers for any values, where its caller sees to this:
+ * - Every pointer is not null and is aligned for its entries, also with 0 entries; then it is neither read nor written.
+ * - Every pointer is valid for its entries until the call returns: all may be read and, where it is not to const, written.
+ * - What a call may write (a pointer that is not to const) overlaps nothing else lent to the same call, and nobody else
+ *   reads or writes it before the call returns; what a call only reads may overlap, and nobody writes it meanwhile.
+ * - The thread has 1.5 MB of stack left (docs/BENCHMARK.md).
+ *
+ * A call keeps no pointer and no state, so calls on several threads do not meet. `number` is the refusal's number
+ * (README.md, "Refusals"), 0 where nothing is refused.
+ *
+ * The structures are those of x86-64 Linux; examples/layout.c states their sizes and offsets.
  */
 #ifndef BEDBLOOMER_H
 #define BEDBLOOMER_H

@@ -1,4 +1,9 @@
 //! The library's calls: their declarations, and a thin safe wrapper for each.
+//!
+//! What the C header asks of a caller holds by the wrappers' types. A slice's pointer is not null, also without
+//! entries, is aligned, and is valid for as many entries as the slice has until the call returns; a slice that a call
+//! writes to is borrowed mutably, so it overlaps no other. Patterns and cursors go by value, and the library answers
+//! for any numbers in them. The stack is the caller's business: `tests/stack.rs` has threads of the size stated.
 
 use crate::layout::{Answer, Cursors, Excerpted, Found, LineEnds, Made, Pattern, ReadBoth, Served};
 
@@ -84,21 +89,25 @@ extern "C" {
 
 /// The count for a pattern file and a text file, or 100,000 plus the refusal's number.
 pub fn count(pattern: &[u8], text: &[u8]) -> u32 {
+    // SAFETY: each pointer and its length are one slice's, borrowed during the call, which only reads them.
     unsafe { bedbloomer_count(pattern.as_ptr(), pattern.len(), text.as_ptr(), text.len()) }
 }
 
 /// Writes what the program prints, as far as `out` holds it: how many bytes.
 pub fn report(input: &[u8], out: &mut [u8]) -> usize {
+    // SAFETY: each pointer and its length are one slice's; only `out` is written, and it is borrowed mutably.
     unsafe { bedbloomer_report(input.as_ptr(), input.len(), out.as_mut_ptr(), out.len()) }
 }
 
 /// The pattern in a pattern file.
 pub fn read_pattern(bytes: &[u8]) -> Made {
+    // SAFETY: the pointer and the length are one slice's, borrowed during the call, which only reads it.
     unsafe { bedbloomer_read_pattern(bytes.as_ptr(), bytes.len()) }
 }
 
 /// Writes the words in a text file to the start of `words`: how many.
 pub fn read_text(bytes: &[u8], words: &mut [u16]) -> Answer {
+    // SAFETY: each pointer and its length are one slice's; only `words` is written, and it is borrowed mutably.
     unsafe { bedbloomer_read_text(bytes.as_ptr(), bytes.len(), words.as_mut_ptr(), words.len()) }
 }
 
@@ -106,85 +115,102 @@ pub fn read_text(bytes: &[u8], words: &mut [u16]) -> Answer {
 pub fn read_input(pattern: &[u8], text: &[u8], words: &mut [u16]) -> ReadBoth {
     let (pattern, pattern_bytes) = (pattern.as_ptr(), pattern.len());
     let (text, text_bytes) = (text.as_ptr(), text.len());
+    // SAFETY: each pointer and its length are one slice's; only `words` is written, and it is borrowed mutably.
     unsafe { bedbloomer_read_input(pattern, pattern_bytes, text, text_bytes, words.as_mut_ptr(), words.len()) }
 }
 
 /// The line that begins at a byte: where it ends, and where the next begins.
 pub fn line(bytes: &[u8], at: usize) -> LineEnds {
+    // SAFETY: the pointer and the length are one slice's, borrowed during the call, which only reads it.
     unsafe { bedbloomer_line(bytes.as_ptr(), bytes.len(), at) }
 }
 
 /// A pattern without slots, with these span limits.
 pub fn pattern_of(least: u16, most: u16) -> Pattern {
+    // SAFETY: no pointer is handed over, and the call answers for any numbers.
     unsafe { bedbloomer_pattern_of(least, most) }
 }
 
 /// The pattern with one slot more.
 pub fn with_slot(pattern: &Pattern, low: u16, high: u16, words: &[u16]) -> Made {
+    // SAFETY: the pointer and the length are one slice's, borrowed during the call, which only reads it.
     unsafe { bedbloomer_with_slot(*pattern, low, high, words.as_ptr(), words.len()) }
 }
 
 /// The tests of a pattern, and of a text of so many words.
 pub fn check(pattern: &Pattern, words: usize) -> Answer {
+    // SAFETY: no pointer is handed over, and the call answers for any numbers.
     unsafe { bedbloomer_check(*pattern, words) }
 }
 
 /// The tests of a pattern.
 pub fn check_pattern(pattern: &Pattern) -> Answer {
+    // SAFETY: no pointer is handed over, and the call answers for any numbers.
     unsafe { bedbloomer_check_pattern(*pattern) }
 }
 
 /// Whether a row is an occurrence.
 pub fn is_occurrence(pattern: &Pattern, text: &[u16], row: &[u16]) -> Answer {
+    // SAFETY: each pointer and its length are one slice's, borrowed during the call, which only reads them.
     unsafe { bedbloomer_is_occurrence(*pattern, text.as_ptr(), text.len(), row.as_ptr(), row.len()) }
 }
 
 /// How long the row's excerpt is, and its word at an index from 0.
 pub fn excerpt(pattern: &Pattern, text: &[u16], row: &[u16], index: usize) -> Excerpted {
+    // SAFETY: each pointer and its length are one slice's, borrowed during the call, which only reads them.
     unsafe { bedbloomer_excerpt(*pattern, text.as_ptr(), text.len(), row.as_ptr(), row.len(), index) }
 }
 
 /// The earliest occurrence past the marks.
 pub fn first_after(pattern: &Pattern, text: &[u16], marks: &[u16]) -> Found {
+    // SAFETY: each pointer and its length are one slice's, borrowed during the call, which only reads them.
     unsafe { bedbloomer_first_after(*pattern, text.as_ptr(), text.len(), marks.as_ptr(), marks.len()) }
 }
 
 /// The latest occurrence before the marks.
 pub fn last_before(pattern: &Pattern, text: &[u16], marks: &[u16]) -> Found {
+    // SAFETY: each pointer and its length are one slice's, borrowed during the call, which only reads them.
     unsafe { bedbloomer_last_before(*pattern, text.as_ptr(), text.len(), marks.as_ptr(), marks.len()) }
 }
 
 /// Writes the front list: how many rows.
 pub fn leftmost(pattern: &Pattern, text: &[u16], list: &mut [u16]) -> Answer {
+    // SAFETY: each pointer and its length are one slice's; only `list` is written, and it is borrowed mutably.
     unsafe { bedbloomer_leftmost(*pattern, text.as_ptr(), text.len(), list.as_mut_ptr(), list.len()) }
 }
 
 /// Writes the back list: how many rows.
 pub fn rightmost(pattern: &Pattern, text: &[u16], list: &mut [u16]) -> Answer {
+    // SAFETY: each pointer and its length are one slice's; only `list` is written, and it is borrowed mutably.
     unsafe { bedbloomer_rightmost(*pattern, text.as_ptr(), text.len(), list.as_mut_ptr(), list.len()) }
 }
 
 /// Writes all occurrences: how many rows.
 pub fn all(pattern: &Pattern, text: &[u16], list: &mut [u16]) -> Answer {
+    // SAFETY: each pointer and its length are one slice's; only `list` is written, and it is borrowed mutably.
     unsafe { bedbloomer_all(*pattern, text.as_ptr(), text.len(), list.as_mut_ptr(), list.len()) }
 }
 
 /// The count.
 pub fn support(pattern: &Pattern, text: &[u16]) -> Answer {
+    // SAFETY: the pointer and the length are one slice's, borrowed during the call, which only reads it.
     unsafe { bedbloomer_support(*pattern, text.as_ptr(), text.len()) }
 }
 
 /// The tally.
 pub fn tally(pattern: &Pattern, text: &[u16]) -> Answer {
+    // SAFETY: the pointer and the length are one slice's, borrowed during the call, which only reads it.
     unsafe { bedbloomer_tally(*pattern, text.as_ptr(), text.len()) }
 }
 
 /// The next occurrence for a client.
 pub fn next(cursors: &Cursors, client: usize, pattern: &Pattern, text: &[u16]) -> Served {
+    // SAFETY: the pointer and the length are one slice's, borrowed during the call, which only reads it.
     unsafe { bedbloomer_next(*cursors, client, *pattern, text.as_ptr(), text.len()) }
 }
 
 /// A client's marks set to 0.
 pub fn rewind(cursors: &Cursors, client: usize) -> Served {
+    // SAFETY: no pointer is handed over, and the call answers for any numbers.
     unsafe { bedbloomer_rewind(*cursors, client) }
 }

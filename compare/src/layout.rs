@@ -1,4 +1,6 @@
-//! The structures of the C header, declared again.
+//! The structures of the C header, declared again, their sizes and offsets stated in bytes.
+
+use std::mem::{offset_of, size_of};
 
 /// A slot: the first `count` of its words, and the gap before it.
 #[repr(C)]
@@ -99,3 +101,27 @@ pub struct Served {
     pub found: u64,
     pub places: [u16; 16],
 }
+
+/// Holds a structure's size and the offsets of all its fields to these bytes; `examples/layout.c` does so for C.
+macro_rules! laid_out {
+    ($structure:ident, $size:literal, { $($field:ident: $offset:literal),+ }) => {
+        const _: () = {
+            assert!(size_of::<$structure>() == $size);
+            $(assert!(offset_of!($structure, $field) == $offset);)+
+            // A field that the list leaves out is an error here.
+            let _ = |$structure { $($field: _),+ }: $structure| {};
+        };
+    };
+}
+
+laid_out!(Slot, 32, { words: 0, count: 16, low: 24, high: 26 });
+laid_out!(Pattern, 528, { slots: 0, count: 512, least: 520, most: 522 });
+laid_out!(Answer, 24, { number: 0, place: 8, value: 16 });
+laid_out!(Made, 544, { number: 0, place: 8, pattern: 16 });
+laid_out!(ReadBoth, 552, { number: 0, place: 8, words: 16, pattern: 24 });
+laid_out!(LineEnds, 16, { end: 0, next: 8 });
+laid_out!(Found, 56, { number: 0, place: 8, found: 16, places: 24 });
+laid_out!(Excerpted, 16, { length: 0, word: 8 });
+laid_out!(Marks, 32, { places: 0 });
+laid_out!(Cursors, 136, { marks: 0, served: 128 });
+laid_out!(Served, 192, { cursors: 0, number: 136, place: 144, found: 152, places: 160 });

@@ -4,6 +4,7 @@ mod bits;
 mod calls;
 mod cursors;
 mod enumerated;
+mod files;
 mod largest;
 mod limits;
 mod lines;
@@ -13,19 +14,17 @@ mod report;
 mod rows;
 #[cfg(test)]
 mod self_tests;
-mod sheets;
-
 mod ways;
 mod windowed;
 
 pub use calls::{check, check_pattern, Brute};
 pub use cursors::rewind;
 pub use enumerated::Enumerated;
+pub use files::{both_from_files, made_from_file, words_from_file};
 pub use largest::{largest_sets, largest_size, overlap};
 pub use limits::{pattern_of, with_slot};
 pub use lines::line;
 pub use occurrences::is_occurrence;
 pub use report::{count, report};
 pub use rows::{sorted_by_slot, Row, Searcher};
-pub use sheets::{both_from_sheets, made_from_sheet, words_from_sheet};
 pub use windowed::Windowed;

@@ -1,9 +1,9 @@
 //! The count for two files, and what the program prints for its input.
 
 use super::calls::Brute;
+use super::files::{read_both, read_pattern, read_text, test_bytes};
 use super::refusal::{refuse, Refusal};
 use super::rows::Row;
-use super::sheets::{read_both, read_pattern, read_text, test_bytes};
 
 /// The count for a pattern file and a text file, or 100,000 plus the refusal's number.
 pub fn count(pattern: &[u8], text: &[u8]) -> u32 {

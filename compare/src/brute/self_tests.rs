@@ -49,7 +49,7 @@ fn worked_report() {
 /// What a file with these slot lines and span limits is refused with.
 fn refused(span: &str, slots: &str) -> (u32, usize) {
     let file = format!("least most\n{span}\nlow high words\n{slots}");
-    let made = made_from_sheet(file.as_bytes());
+    let made = made_from_file(file.as_bytes());
     (made.number, made.place)
 }
 
@@ -79,11 +79,11 @@ fn refusals_of_calls() {
 /// The examples in the scope's table of refusals, 10 to 15.
 #[test]
 fn refusals_of_files_and_cursors() {
-    let made = made_from_sheet(b"least most\n1 5\nwords low\n0 0 7\n");
+    let made = made_from_file(b"least most\n1 5\nwords low\n0 0 7\n");
     assert_eq!((made.number, made.place), (10, 3));
     assert_eq!(refused("1 20000", "0 01 7\n"), (11, 4));
-    assert_eq!(made_from_sheet(&[b'\n'; 60_001]).number, 12);
-    assert_eq!(words_from_sheet(b"word\n7\n8\n", &mut [0]).number, 13);
+    assert_eq!(made_from_file(&[b'\n'; 60_001]).number, 12);
+    assert_eq!(words_from_file(b"word\n7\n8\n", &mut [0]).number, 13);
     let accepted = pattern(ANY_SPAN, &sevens(1, 0, 0));
     let text = vec![7; 600];
     let brute = Brute::enumerated(&accepted, &text);
@@ -101,7 +101,7 @@ fn refusals_of_files_and_cursors() {
 /// What two files are refused with, three words lent; a refusal gives a new pattern and no words, and writes none.
 fn refused_both(pattern: &[u8], text: &[u8]) -> (u32, usize) {
     let mut words = [9; 3];
-    let read = both_from_sheets(pattern, text, &mut words);
+    let read = both_from_files(pattern, text, &mut words);
     assert_eq!((read.words, read.pattern, words), (0, pattern_of(1, 20_000), [9; 3]));
     (read.number, read.place)
 }
@@ -119,7 +119,7 @@ fn refusals_of_two_files() {
     assert_eq!(refused_both(good, b"word\n7\n07\n"), (11, 3));
     assert_eq!(refused_both(good, b"word\n7\n7\n7\n7\n"), (13, 0));
     let mut words = [9; 3];
-    let read = both_from_sheets(good, b"word\n7\n8\n", &mut words);
+    let read = both_from_files(good, b"word\n7\n8\n", &mut words);
     assert_eq!((read.number, read.place, read.words), (0, 0, 2));
     assert_eq!((read.pattern, words), (pattern(ANY_SPAN, &sevens(1, 0, 0)), [7, 8, 9]));
 }
@@ -166,12 +166,12 @@ fn files_read_back() {
     let kind = Kind { slots: (1, 16), highest_word: 65_535, most_words: 8, widest_gap: 63 };
     for _ in 0..200 {
         let written = any_pattern(&mut rng, &kind);
-        let read = made_from_sheet(&plain_pattern_file(&written));
+        let read = made_from_file(&plain_pattern_file(&written));
         assert_eq!((read.number, read.place), (0, 0));
         assert_eq!(plain_pattern_file(&read.pattern), plain_pattern_file(&written));
         let text = any_text(&mut rng, 50, 65_535);
         let mut words = [9; 50];
-        assert_eq!(words_from_sheet(&text_file(&text), &mut words).value, 50);
+        assert_eq!(words_from_file(&text_file(&text), &mut words).value, 50);
         assert_eq!(words, text[..]);
     }
 }

@@ -6,15 +6,15 @@ use compare::brute::{self, Brute, Row, Searcher};
 use compare::ffi;
 use compare::layout::{Answer, Cursors, Found, Pattern};
 
+use crate::call::Call;
 use crate::lent::Lent;
 use crate::run::Run;
 
 /// A list call of the library, and the same of the brute force.
-type ListCall<'a, S> =
-    (&'static str, fn(&Pattern, &[u16], &mut [u16]) -> Answer, fn(&Brute<'a, S>, &mut [u16]) -> Answer);
+type ListCall<'a, S> = (Call, fn(&Pattern, &[u16], &mut [u16]) -> Answer, fn(&Brute<'a, S>, &mut [u16]) -> Answer);
 
 /// A search of the library, and the same of the brute force.
-type Search<'a, S> = (&'static str, fn(&Pattern, &[u16], &[u16]) -> Found, fn(&Brute<'a, S>, &[u16]) -> Found);
+type Search<'a, S> = (Call, fn(&Pattern, &[u16], &[u16]) -> Found, fn(&Brute<'a, S>, &[u16]) -> Found);
 
 /// The longest list lent for all occurrences.
 const LONGEST: usize = 400_000;
@@ -40,7 +40,7 @@ impl<'a, S: Searcher> Both<'a, S> {
     }
 
     /// Compares an answer that comes without a list.
-    fn answered(&mut self, library: Answer, brute: Answer, call: &str) {
+    fn answered(&mut self, library: Answer, brute: Answer, call: Call) {
         self.agree(&library, &brute, || call.to_string());
         self.run.call(call, library.number);
     }
@@ -54,7 +54,7 @@ impl<'a, S: Searcher> Both<'a, S> {
     pub fn numbers(&mut self) {
         let (pattern, text) = (self.brute.pattern, self.brute.text);
         let brute = self.brute.support();
-        self.answered(ffi::support(pattern, text), brute, "support");
+        self.answered(ffi::support(pattern, text), brute, Call::Support);
         self.tally();
     }
 
@@ -62,7 +62,7 @@ impl<'a, S: Searcher> Both<'a, S> {
     pub fn tally(&mut self) {
         let brute = self.brute.tally();
         let library = ffi::tally(self.brute.pattern, self.brute.text);
-        self.answered(library, brute, "tally");
+        self.answered(library, brute, Call::Tally);
     }
 
     /// Compares whether a row is an occurrence, and every word of its excerpt.
@@ -71,27 +71,27 @@ impl<'a, S: Searcher> Both<'a, S> {
         let library = ffi::is_occurrence(pattern, text, row);
         let brute = self.brute.is_occurrence(row);
         self.agree(&library, &brute, || format!("is_occurrence {row:?}"));
-        self.run.call("is_occurrence", library.number);
+        self.run.call(Call::IsOccurrence, library.number);
         let length = self.brute.excerpt(row, 0).length;
         for index in (0..=length).chain([usize::MAX]) {
             let library = ffi::excerpt(pattern, text, row, index);
             let brute = self.brute.excerpt(row, index);
             self.agree(&library, &brute, || format!("excerpt {row:?} at {index}"));
-            self.run.call("excerpt", 0);
+            self.run.call(Call::Excerpt, 0);
         }
     }
 
     /// Compares both searches from these marks.
     pub fn searches(&mut self, marks: &[u16]) {
         let searches: [Search<S>; 2] = [
-            ("first_after", ffi::first_after, Brute::first_after),
-            ("last_before", ffi::last_before, Brute::last_before),
+            (Call::FirstAfter, ffi::first_after, Brute::first_after),
+            (Call::LastBefore, ffi::last_before, Brute::last_before),
         ];
-        for (name, library, brute) in searches {
+        for (call, library, brute) in searches {
             let library = library(self.brute.pattern, self.brute.text, marks);
             let brute = brute(&self.brute, marks);
-            self.agree(&library, &brute, || format!("{name} {marks:?}"));
-            self.run.call(name, library.number);
+            self.agree(&library, &brute, || format!("{call} {marks:?}"));
+            self.run.call(call, library.number);
         }
     }
 
@@ -100,8 +100,8 @@ impl<'a, S: Searcher> Both<'a, S> {
         let rows = self.brute.front().map_or(0, <[Row]>::len);
         let entries = rows * self.brute.pattern.count.min(16);
         for room in [vec![0, entries + 1], rooms(entries)].concat() {
-            self.list(("leftmost", ffi::leftmost, Brute::leftmost), room);
-            self.list(("rightmost", ffi::rightmost, Brute::rightmost), room);
+            self.list((Call::Leftmost, ffi::leftmost, Brute::leftmost), room);
+            self.list((Call::Rightmost, ffi::rightmost, Brute::rightmost), room);
         }
     }
 
@@ -114,19 +114,19 @@ impl<'a, S: Searcher> Both<'a, S> {
             _ => vec![0, LONGEST],
         };
         for room in rooms {
-            self.list(("all", ffi::all, Brute::all), room);
+            self.list((Call::All, ffi::all, Brute::all), room);
         }
     }
 
     /// Compares one list call with so many entries lent.
-    fn list(&mut self, (name, library, brute): ListCall<'a, S>, room: usize) {
+    fn list(&mut self, (call, library, brute): ListCall<'a, S>, room: usize) {
         let (mut lent, mut expected) = (Lent::places(room), Lent::places(room));
         let library = library(self.brute.pattern, self.brute.text, lent.part());
         let brute = brute(&self.brute, expected.part());
-        let call = || format!("{name} with {room} entries lent");
-        self.agree(&library, &brute, call);
-        self.agree(&lent, &expected, call);
-        self.run.call(name, library.number);
+        let case = || format!("{call} with {room} entries lent");
+        self.agree(&library, &brute, case);
+        self.agree(&lent, &expected, case);
+        self.run.call(call, library.number);
     }
 
     /// Compares the next occurrence for a client, and gives the state after it.
@@ -135,7 +135,7 @@ impl<'a, S: Searcher> Both<'a, S> {
         let library = ffi::next(cursors, client, pattern, text);
         let brute = self.brute.next(cursors, client);
         self.agree(&library, &brute, || format!("next for {client} from {cursors:?}"));
-        self.run.call("next", library.number);
+        self.run.call(Call::Next, library.number);
         library.cursors
     }
 
@@ -164,21 +164,21 @@ pub fn check(run: &mut Run, pattern: &Pattern, words: usize) {
     let (library, brute) = (ffi::check(pattern, words), brute::check(pattern, words));
     let case = || format!("check with {words} words\npattern: {pattern:?}");
     run.agree(&library, &brute, case);
-    run.call("check", library.number);
+    run.call(Call::Check, library.number);
 }
 
 /// Compares the tests of a pattern alone.
 pub fn check_pattern(run: &mut Run, pattern: &Pattern) {
     let (library, brute) = (ffi::check_pattern(pattern), brute::check_pattern(pattern));
     run.agree(&library, &brute, || format!("check_pattern\npattern: {pattern:?}"));
-    run.call("check_pattern", library.number);
+    run.call(Call::CheckPattern, library.number);
 }
 
 /// Compares a new pattern with these span limits.
 pub fn pattern_of(run: &mut Run, least: u16, most: u16) {
     let (library, brute) = (ffi::pattern_of(least, most), brute::pattern_of(least, most));
     run.agree(&library, &brute, || format!("pattern_of {least} {most}"));
-    run.call("pattern_of", 0);
+    run.call(Call::PatternOf, 0);
 }
 
 /// Compares adding a slot to a pattern.
@@ -187,7 +187,7 @@ pub fn with_slot(run: &mut Run, pattern: &Pattern, low: u16, high: u16, words: &
     let brute = brute::with_slot(pattern, low, high, words);
     let case = || format!("with_slot {low} {high} {words:?}\npattern: {pattern:?}");
     run.agree(&library, &brute, case);
-    run.call("with_slot", library.number);
+    run.call(Call::WithSlot, library.number);
 }
 
 /// Compares setting a client's marks to 0, and gives the state after it.
@@ -196,6 +196,6 @@ pub fn rewind(run: &mut Run, cursors: &Cursors, client: usize) -> Cursors {
     let brute = brute::rewind(cursors, client);
     let case = || format!("rewind {client} from {cursors:?}");
     run.agree(&library, &brute, case);
-    run.call("rewind", library.number);
+    run.call(Call::Rewind, library.number);
     library.cursors
 }

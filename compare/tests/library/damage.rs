@@ -4,7 +4,7 @@ use compare::cases::files::{damage, damages_at, input, pattern_file, text_file, 
 use compare::cases::pattern;
 use compare::rng::Rng;
 
-use crate::files::{lines, pair, read_pattern, read_text, report};
+use crate::file_calls::{lines, pair, read_pattern, read_text, report};
 use crate::run::Run;
 
 /// Words lent to the text reader, more than a damaged file has.

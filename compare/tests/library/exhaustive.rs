@@ -8,7 +8,7 @@ use compare::layout::Pattern;
 use compare::rng::Rng;
 
 use crate::both::{check_pattern, Both};
-use crate::files::lines;
+use crate::file_calls::lines;
 use crate::run::Run;
 
 /// Gaps of every small shape.

@@ -1,117 +1,196 @@
-//! The calls on files, made on the library and worked out by brute force.
+//! Files on both sides of each limit, in every order of names, one by one and two in one call.
 
-use compare::brute;
-use compare::ffi;
+use compare::brute::pattern_of;
+use compare::cases::files::{damage, input, pattern_file, plain_pattern_file, text_file, SLOT_ORDERS, SPAN_ORDERS};
+use compare::cases::inputs::inputs;
+use compare::cases::random::{any_pattern, any_text, break_pattern, Kind};
+use compare::cases::worked::EXAMPLE_INPUT;
+use compare::rng::Rng;
 
-use crate::lent::{Fenced, Lent};
+use crate::file_calls::{lines, pair, read_input, read_pattern, read_text, report, report_cut};
 use crate::run::Run;
 
-/// Compares what a pattern file is read as.
-pub fn read_pattern(run: &mut Run, file: &[u8]) {
-    let library = ffi::read_pattern(file);
-    let brute = brute::made_from_sheet(file);
-    run.agree(&library, &brute, || format!("read_pattern {}", shown(file)));
-    run.call("read_pattern", library.number);
+/// The lines before the slots' lines.
+const HEAD: &str = "least most\n1 20000\nlow high words\n";
+
+/// What the patterns in files are like.
+const KIND: Kind = Kind { slots: (1, 16), highest_word: 9, most_words: 8, widest_gap: 5 };
+
+/// Compares files.
+pub fn run(run: &mut Run) {
+    good(run);
+    bytes_at_limit(run);
+    slots_at_limit(run);
+    words_at_limit(run);
+    failures_of_both(run);
+    pairs_at_random(run);
+    for input in inputs() {
+        run.input();
+        report(run, &input);
+        lines(run, &input);
+    }
+    run.input();
+    report_cut(run, EXAMPLE_INPUT);
+    report_cut(run, b"");
 }
 
-/// Compares what a text file is read as, with so many words lent.
-pub fn read_text(run: &mut Run, file: &[u8], room: usize) {
-    let (mut lent, mut expected) = (Lent::places(room), Lent::places(room));
-    let library = ffi::read_text(file, lent.part());
-    let brute = brute::words_from_sheet(file, expected.part());
-    let case = || format!("read_text {} with {room} words lent", shown(file));
-    run.agree(&library, &brute, case);
-    run.agree(&lent, &expected, case);
-    run.call("read_text", library.number);
-}
-
-/// Compares what two files are read as in one call and the count for them, with lists of every interesting length lent.
-pub fn pair(run: &mut Run, pattern: &[u8], text: &[u8]) {
-    count(run, pattern, text);
-    let lines = text.iter().filter(|&&byte| byte == b'\n').count();
-    let words = lines.saturating_sub(1);
-    let mut rooms = vec![0, words.saturating_sub(1), words, words + 1, words + 37];
-    rooms.dedup();
-    for room in rooms {
-        read_input(run, pattern, text, room);
+/// Compares good files with their names in every order, and with lists of too few words.
+fn good(run: &mut Run) {
+    let mut rng = Rng::new(44);
+    for _ in 0..40 {
+        let pattern = any_pattern(&mut rng, &KIND);
+        let words = rng.within(0, 30);
+        let text = text_file(&any_text(&mut rng, words, 9));
+        for span in SPAN_ORDERS {
+            for slot in SLOT_ORDERS {
+                let file = pattern_file(&pattern, span, slot);
+                run.input();
+                read_pattern(run, &file);
+                pair(run, &file, &text);
+                report(run, &input(&file, &text));
+            }
+        }
+        for room in [0, words.saturating_sub(1), words, words + 1, words + 20] {
+            run.input();
+            read_text(run, &text, room);
+        }
     }
 }
 
-/// Compares what two files are read as in one call, with so many words lent.
-pub fn read_input(run: &mut Run, pattern: &[u8], text: &[u8], room: usize) {
-    let (mut lent, mut expected) = (Lent::places(room), Lent::places(room));
-    let library = ffi::read_input(Fenced::new(pattern).part(), Fenced::new(text).part(), lent.part());
-    let brute = brute::both_from_sheets(pattern, text, expected.part());
-    let case = || format!("read_input {} {} with {room} words lent", shown(pattern), shown(text));
-    run.agree(&library, &brute, case);
-    run.agree(&lent, &expected, case);
-    run.call("read_input", library.number);
+/// A file of exactly so many bytes that begins like this and goes on with the same line again and again.
+fn filled(head: &str, line: &str, bytes: usize) -> Vec<u8> {
+    let mut file = head.as_bytes().to_vec();
+    while file.len() < bytes {
+        file.extend(line.as_bytes());
+    }
+    file.truncate(bytes);
+    file
 }
 
-/// Compares where the lines of a file end, from every byte of a short file, some of a long one, and from past its end.
-pub fn lines(run: &mut Run, file: &[u8]) {
-    let lent = Fenced::new(file);
-    for at in offsets(file.len()) {
-        let (library, brute) = (ffi::line(lent.part(), at), brute::line(file, at));
-        run.agree(&library, &brute, || format!("line {} from {at}", shown(file)));
-        run.call("line", 0);
+/// Compares files of 60,000 and 60,001 bytes.
+fn bytes_at_limit(run: &mut Run) {
+    let short_pattern = format!("{HEAD}0 0 7\n").into_bytes();
+    for bytes in [59_999, 60_000, 60_001, 65_536, 70_000] {
+        let text = filled("word\n", "1234\n", bytes);
+        let single = filled("word\n7\n", "7\n", bytes);
+        let pattern = filled(HEAD, "0 0 7\n", bytes);
+        let listed = filled(&format!("{HEAD}0 0 7"), ",7", bytes - 1);
+        let listed = [&listed[..], b"\n"].concat();
+        for text in [&text, &single] {
+            run.input();
+            read_text(run, text, 20_000);
+            lines(run, text);
+            pair(run, &short_pattern, text);
+            report(run, &input(&short_pattern, text));
+        }
+        for pattern in [&pattern, &listed, &text] {
+            run.input();
+            read_pattern(run, pattern);
+            lines(run, pattern);
+            pair(run, pattern, b"word\n7\n");
+            pair(run, pattern, &single);
+            report(run, pattern);
+        }
+    }
+    let whole = 60_000 - short_pattern.len() - 1;
+    for bytes in [whole - 4, whole, whole + 1] {
+        run.input();
+        report(run, &input(&short_pattern, &filled("word\n", "1234\n", bytes)));
     }
 }
 
-/// Every offset in a file of fewer than 600 bytes, some 200 to 300 in a longer one, and offsets past its end.
-fn offsets(bytes: usize) -> Vec<usize> {
-    let within = (0..bytes).step_by((bytes / 300) | 1);
-    let past = [0, 1, 2, 24, 256, 65_536, 1 << 32, 1 << 63].map(|more| bytes + more);
-    let last = [usize::MAX - bytes, usize::MAX - 1, usize::MAX];
-    within.chain([bytes.saturating_sub(1)]).chain(past).chain(last).collect()
-}
-
-/// Compares the count for two files.
-pub fn count(run: &mut Run, pattern: &[u8], text: &[u8]) {
-    let library = ffi::count(pattern, text);
-    let brute = brute::count(pattern, text);
-    let case = || format!("count {} {}", shown(pattern), shown(text));
-    run.agree(&library, &brute, case);
-    run.call("count", library.saturating_sub(100_000));
-}
-
-/// Compares what the program prints, with room for all of it and some more.
-pub fn report(run: &mut Run, input: &[u8]) {
-    let expected = brute::report(input);
-    report_in(run, input, &expected, expected.len() + 50);
-}
-
-/// Compares what the program prints, also with too little room for it, where the rest is left out.
-pub fn report_cut(run: &mut Run, input: &[u8]) {
-    let expected = brute::report(input);
-    let whole = expected.len();
-    for room in [0, 1, 13, whole / 2, whole - 1, whole, whole + 1] {
-        report_in(run, input, &expected, room);
+/// Compares pattern files with numbers of slots and words on both sides of the limits.
+fn slots_at_limit(run: &mut Run) {
+    for slots in (0..=20).chain([255, 256, 257, 1_000]) {
+        for (line, last) in [("0 0 7\n", ""), ("0 0 7\n", "0 0 07\n"), ("0 0 0\n", ""), ("0 64 7\n", "x")] {
+            let file = format!("{HEAD}{}{last}", line.repeat(slots)).into_bytes();
+            run.input();
+            read_pattern(run, &file);
+            pair(run, &file, b"word\n7\n7\n");
+            report(run, &input(&file, b"word\n7\n7\n"));
+        }
+    }
+    for words in (1..=20).chain([255, 256, 257, 2_000]) {
+        let joined = vec!["7"; words].join(",");
+        for (low, high) in [("0", "0"), ("0", "1"), ("1", "0"), ("64", "64"), ("0", "065")] {
+            for field in [joined.clone(), format!("{joined},0"), format!("0,{joined}"), format!("{joined},")] {
+                let file = format!("{HEAD}0 0 7\n{low} {high} {field}\n").into_bytes();
+                run.input();
+                read_pattern(run, &file);
+                pair(run, &file, b"word\n7\n7\n");
+            }
+        }
     }
 }
 
-/// Compares what the program prints with so many bytes lent.
-fn report_in(run: &mut Run, input: &[u8], expected: &[u8], room: usize) {
-    let (mut lent, mut filled) = (Lent::bytes(room), Lent::bytes(room));
-    let written = ffi::report(input, lent.part());
-    let fitting = expected.len().min(room);
-    filled.part()[..fitting].copy_from_slice(&expected[..fitting]);
-    let case = || format!("report {} with {room} bytes lent", shown(input));
-    run.agree(&written, &fitting, case);
-    run.agree(&lent, &filled, case);
-    run.call("report", refused(expected));
-}
-
-/// The number that an output says the input is refused with, 0 if it says no such thing.
-fn refused(output: &[u8]) -> u32 {
-    let output = String::from_utf8_lossy(output);
-    match output.split_whitespace().collect::<Vec<_>>()[..] {
-        ["refused", "place", number, _] => number.parse().expect("a number"),
-        _ => 0,
+/// Compares text files of 20,000 and 20,001 words, with and without a wrong line at the end, and with few words lent.
+fn words_at_limit(run: &mut Run) {
+    let pattern = format!("{HEAD}0 0 7\n").into_bytes();
+    for words in [19_999, 20_000, 20_001, 25_000] {
+        for last in ["", "x\n", "7"] {
+            let file = format!("word\n{}{last}", "7\n".repeat(words)).into_bytes();
+            for room in [0, 1, words - 1, words, words + 1] {
+                run.input();
+                read_text(run, &file, room);
+            }
+            read_input(run, &pattern, &file, 1);
+            read_input(run, &pattern, &file, 20_000);
+            pair(run, &pattern, &file);
+            report(run, &input(&pattern, &file));
+        }
     }
 }
 
-/// A file as a byte string.
-fn shown(file: &[u8]) -> String {
-    format!("b\"{}\"", file.escape_ascii())
+/// Compares two files in one call, each of them failing in every way.
+fn failures_of_both(run: &mut Run) {
+    let mut patterns: Vec<Vec<u8>> =
+        ["0 0 7\n", "", "0 0 7", "0 0 0\n", "0 0 7\n3 2 7\n", "0 0 1,2,3,4,5,6,7,8,9\n", "0 0 \n"]
+            .iter()
+            .map(|slots| format!("{HEAD}{slots}").into_bytes())
+            .collect();
+    patterns.push(b"least most\n0 5\nlow high words\n0 0 7\n".to_vec());
+    patterns.push(b"least most\n0 5\nlow high words\n0 0 0\n".to_vec());
+    patterns.push(b"least most\n1 20000\nwords low\n".to_vec());
+    patterns.push(plain_pattern_file(&pattern_of(1, 5)));
+    patterns.push(vec![b'7'; 60_000]);
+    patterns.push(vec![b'7'; 60_001]);
+    let mut texts: Vec<Vec<u8>> = ["", "word\n", "word", "word\n7\n", "words\n7\n", "word\n07\n", "word\n7"]
+        .iter()
+        .map(|file| file.as_bytes().to_vec())
+        .collect();
+    texts.push(filled("word\n", "7\n", 45_001));
+    texts.push(filled("word\n", "7\n", 60_001));
+    for pattern in &patterns {
+        for text in &texts {
+            run.input();
+            pair(run, pattern, text);
+            report(run, &input(pattern, text));
+        }
+    }
+}
+
+/// Compares two random files in one call, now and then with values past the limits, damaged bytes, or both.
+fn pairs_at_random(run: &mut Run) {
+    let mut rng = Rng::new(45);
+    for _ in 0..4_000 {
+        let mut stated = any_pattern(&mut rng, &KIND);
+        for _ in 0..rng.pick(&[0, 0, 1, 2]) {
+            break_pattern(&mut rng, &mut stated);
+        }
+        stated.count = stated.count.min(16);
+        stated.slots.iter_mut().for_each(|slot| slot.count = slot.count.min(8));
+        let mut file = pattern_file(&stated, rng.pick(&SPAN_ORDERS), rng.pick(&SLOT_ORDERS));
+        let words = rng.within(0, 30);
+        let mut text = text_file(&any_text(&mut rng, words, 29_999));
+        if rng.once_in(6) {
+            file = damage(&mut rng, &file);
+        }
+        if rng.once_in(3) {
+            text = damage(&mut rng, &text);
+        }
+        run.input();
+        pair(run, &file, &text);
+        lines(run, &file);
+        lines(run, &text);
+    }
 }

@@ -10,7 +10,7 @@ use compare::layout::{Cursors, Pattern};
 use compare::rng::Rng;
 
 use crate::both::{check, pattern_of, rewind, with_slot, Both};
-use crate::files::lines;
+use crate::file_calls::lines;
 use crate::run::Run;
 
 /// Numbers of slots or words on both sides of their limits, and some that look small when cut to fewer bits.

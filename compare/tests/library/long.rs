@@ -9,6 +9,7 @@ use compare::layout::{Answer, Cursors, Pattern};
 use compare::rng::Rng;
 
 use crate::both::Both;
+use crate::call::Call;
 use crate::lent::Lent;
 use crate::run::Run;
 
@@ -79,14 +80,14 @@ fn same_words(run: &mut Run, slots: usize, low: u16, high: u16) {
     let row = |first: u16| (0..slots as u16).map(move |slot| first + slot * (low + 1));
     let rows: Row = (1..=count).flat_map(row).collect();
     run.input();
-    for (name, call) in [("leftmost", ffi::leftmost as ListCall), ("rightmost", ffi::rightmost)] {
+    for (call, list) in [(Call::Leftmost, ffi::leftmost as ListCall), (Call::Rightmost, ffi::rightmost)] {
         let (mut lent, mut expected) = (Lent::places(rows.len() + 9), Lent::places(rows.len() + 9));
         expected.part()[..rows.len()].copy_from_slice(&rows);
-        let library = call(&pattern, &text, lent.part());
+        let library = list(&pattern, &text, lent.part());
         let answer = Answer { number: 0, place: 0, value: count.into() };
-        let case = || format!("{name} of 20,000 sevens: {slots} sevens, gaps {low} to {high}");
+        let case = || format!("{call} of 20,000 sevens: {slots} sevens, gaps {low} to {high}");
         run.agree(&library, &answer, case);
         run.agree(&lent, &expected, case);
-        run.call(name, library.number);
+        run.call(call, library.number);
     }
 }

@@ -1,9 +1,11 @@
 //! Compares the library with the brute force, and counts what was compared.
 
 mod both;
+mod call;
 mod damage;
 mod desk;
 mod exhaustive;
+mod file_calls;
 mod files;
 mod lent;
 mod limits;
@@ -11,7 +13,6 @@ mod long;
 mod order;
 mod random;
 mod run;
-mod sheets;
 mod spellings;
 mod worked;
 
@@ -31,7 +32,7 @@ const GROUPS: [Group; 10] = [
     ("random", random::run),
     ("limits", limits::run),
     ("order", order::run),
-    ("sheets", sheets::run),
+    ("files", files::run),
     ("spellings", spellings::run),
     ("damage", damage::run),
     ("desk", desk::run),

@@ -7,7 +7,7 @@ use compare::layout::Pattern;
 use compare::rng::Rng;
 
 use crate::both::{pattern_of, with_slot, Both};
-use crate::files::lines;
+use crate::file_calls::lines;
 use crate::run::Run;
 
 /// The most occurrences that are written out one by one; beyond, they are sieved.

@@ -2,37 +2,20 @@
 
 use std::fmt::Debug;
 
-/// The library's calls.
-const CALLS: [&str; 21] = [
-    "count",
-    "report",
-    "read_pattern",
-    "read_text",
-    "read_input",
-    "line",
-    "pattern_of",
-    "with_slot",
-    "check",
-    "check_pattern",
-    "is_occurrence",
-    "excerpt",
-    "first_after",
-    "last_before",
-    "leftmost",
-    "rightmost",
-    "all",
-    "support",
-    "tally",
-    "next",
-    "rewind",
-];
+use crate::call::Call;
+
+/// The numbers that the library refuses with; each must come up in a run.
+const REFUSALS: [usize; 15] = [1, 2, 3, 4, 5, 6, 7, 8, 9, 10, 11, 12, 13, 14, 15];
+
+/// How many numbers there is room for: 0, where nothing is refused, and those of documents 01 and 02, 1 to 28.
+const NUMBERS: usize = 29;
 
 /// What has been compared so far.
 pub struct Run {
     groups: Vec<Group>,
     inputs: u64,
-    calls: [Compared; CALLS.len()],
-    refusals: [u64; 16],
+    calls: [Compared; Call::ALL.len()],
+    answers: [u64; NUMBERS],
 }
 
 /// How much of one call has been compared, and the number of its last input.
@@ -53,7 +36,8 @@ struct Group {
 impl Run {
     /// A run that has compared nothing.
     pub fn new() -> Run {
-        Run { groups: Vec::new(), inputs: 0, calls: [Compared::default(); CALLS.len()], refusals: [0; 16] }
+        let calls = [Compared::default(); Call::ALL.len()];
+        Run { groups: Vec::new(), inputs: 0, calls, answers: [0; NUMBERS] }
     }
 
     /// Begins a group of cases.
@@ -73,15 +57,15 @@ impl Run {
         self.group().inputs += 1;
     }
 
-    /// Counts one call of this name that was refused with this number, 0 if it was not refused.
-    pub fn call(&mut self, name: &str, number: u32) {
+    /// Counts one call that was refused with this number, 0 if it was not refused.
+    pub fn call(&mut self, call: Call, number: u32) {
         self.group().calls += 1;
-        let at = CALLS.iter().position(|call| *call == name).expect("the library has this call");
-        let (input, call) = (self.inputs, &mut self.calls[at]);
-        call.inputs += u64::from(call.last != input);
-        (call.calls, call.last) = (call.calls + 1, input);
-        let refused = self.refusals.get_mut(number as usize);
-        *refused.expect("the library refuses with 1 to 15") += 1;
+        let (input, compared) = (self.inputs, &mut self.calls[call as usize]);
+        compared.inputs += u64::from(compared.last != input);
+        (compared.calls, compared.last) = (compared.calls + 1, input);
+        let number = number as usize;
+        assert!(number == 0 || REFUSALS.contains(&number), "{call} refuses with {number}");
+        self.answers[number] += 1;
     }
 
     /// Stops the group with the case written out, unless library and brute force agree.
@@ -100,12 +84,12 @@ impl Run {
         let calls: u64 = self.groups.iter().map(|group| group.calls).sum();
         println!("{:<12} {:>9} {calls:>10}", "together", self.inputs);
         println!("\n{:<14} {:>7} {:>10}", "call", "inputs", "calls");
-        for (name, call) in CALLS.iter().zip(&self.calls) {
-            println!("{name:<14} {:>7} {:>10}", call.inputs, call.calls);
+        for (call, compared) in Call::ALL.iter().zip(&self.calls) {
+            println!("{call:<14} {:>7} {:>10}", compared.inputs, compared.calls);
         }
         println!();
-        for (number, times) in self.refusals.iter().enumerate().skip(1) {
-            println!("refused with {number:>2}: {times:>8}");
+        for number in REFUSALS {
+            println!("refused with {number:>2}: {:>8}", self.answers[number]);
         }
     }
 
@@ -116,12 +100,12 @@ impl Run {
 
     /// The calls that were compared on fewer inputs than this.
     pub fn rare(&self, fewest: u64) -> Vec<&'static str> {
-        let compared = CALLS.iter().zip(&self.calls);
-        compared.filter(|(_, call)| call.inputs < fewest).map(|(name, _)| *name).collect()
+        let compared = Call::ALL.iter().zip(&self.calls);
+        compared.filter(|(_, compared)| compared.inputs < fewest).map(|(call, _)| call.name()).collect()
     }
 
     /// The refusals' numbers that never came up.
     pub fn missing(&self) -> Vec<usize> {
-        (1..=15).filter(|&number| self.refusals[number] == 0).collect()
+        REFUSALS.into_iter().filter(|&number| self.answers[number] == 0).collect()
     }
 }

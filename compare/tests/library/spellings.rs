@@ -3,7 +3,7 @@
 use compare::cases::files::input;
 use compare::cases::lines::every_byte;
 
-use crate::files::{lines, pair, read_pattern, read_text, report};
+use crate::file_calls::{lines, pair, read_pattern, read_text, report};
 use crate::run::Run;
 
 /// Numbers as they may and may not be spelled, some that look right when cut to fewer bits.

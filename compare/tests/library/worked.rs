@@ -8,7 +8,7 @@ use compare::ffi;
 use compare::layout::{Answer, Cursors, LineEnds, Pattern};
 
 use crate::both::Both;
-use crate::files;
+use crate::file_calls;
 use crate::run::Run;
 
 /// Compares the nine texts and the example.
@@ -23,15 +23,15 @@ pub fn run(run: &mut Run) {
         both.every_call(&vec![0; case.slots.len()], &Cursors::default(), 1);
         let (file, text) = (plain_pattern_file(&pattern), text_file(case.text));
         stated_in_files(case, &pattern, &file, &text);
-        files::pair(run, &file, &text);
-        files::lines(run, &text);
+        file_calls::pair(run, &file, &text);
+        file_calls::lines(run, &text);
     }
     let mut out = [0; 200];
     let written = ffi::report(EXAMPLE_INPUT, &mut out);
     assert_eq!(&out[..written], EXAMPLE_OUTPUT);
     run.input();
-    files::report(run, EXAMPLE_INPUT);
-    files::lines(run, EXAMPLE_INPUT);
+    file_calls::report(run, EXAMPLE_INPUT);
+    file_calls::lines(run, EXAMPLE_INPUT);
     assert_lines(EXAMPLE_INPUT);
     assert_lines(EXAMPLE_OUTPUT);
 }

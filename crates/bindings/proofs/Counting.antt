@@ -25,7 +25,7 @@ use Rattle.bindings.proofs.Numbers.{number-range}
 
 -- ---- the number that a read text shows
 
-number-small : (x : TextRead) → ofTextRead x .number ≤ 15
+number-small : (x : TextRead) → ofTextRead x .number ≤ 99
 number-small (Words n) = omega arith
 number-small (Refused why) = number-range why .1
 
@@ -45,7 +45,7 @@ module _ (p t out : List ℕ) {r : ReadBoth} (read : r ≡ ofInputRead (inputRea
   number : r .number ≡ ofTextRead (inputRead p t (length out) .text) .number
   number = ap (λ (b : ReadBoth). b .number) read
 
-  pub few : r .number ≤ 15
+  pub few : r .number ≤ 99
   few = omega (arith, number, number-small (inputRead p t (length out) .text))
 
   -- where a file is refused; the room is the whole limit

@@ -1,11 +1,11 @@
--- A refusal's number is from 1 to 15. Assumes nothing.
+-- A refusal's number is from 1 to 99. Assumes nothing.
 use Prim.Native.Nat.{_≤_}
 use native.Mathlib.Omega.{arith}
 use Rattle.pattern.specs.declared.refusal.Refusal.{Refusal}
 use Rattle.pattern.specs.declared.refusal.Refusal.the-variants.{SlotCount, WordCount, ZeroWord, Gap, Span, TextLength, RowLength, ListLength, Tally, Names, Values, FileLength, WordListLength, Client, Served}
 use Rattle.pattern.specs.Refusals.{numberOf}
 
-pub number-range : (why : Refusal) → (1 ≤ numberOf why) × (numberOf why ≤ 15)
+pub number-range : (why : Refusal) → (1 ≤ numberOf why) × (numberOf why ≤ 99)
 number-range SlotCount = (omega arith, omega arith)
 number-range (WordCount slot) = (omega arith, omega arith)
 number-range (ZeroWord slot) = (omega arith, omega arith)

@@ -12,7 +12,8 @@ ghost use Rattle.format.specs.Input.{inputRead, inputWritten};
 ghost use Rattle.format.specs.Lines.{lineAt};
 ghost use Rattle.format.specs.Patterns.{patternRead};
 ghost use Rattle.format.specs.Texts.{textRead, textWritten};
-ghost use Rattle.report.specs.Report.{reported, overlaid};
+ghost use Rattle.basics.specs.Writing.{overlaid};
+ghost use Rattle.report.specs.Report.{reported};
 ghost use Rattle.bindings.specs.Answers.{ofPatternRead, ofTextRead, ofInputRead, ofLine};
 ghost use Rattle.bindings.specs.Counts.{countOf};
 

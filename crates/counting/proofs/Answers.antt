@@ -14,7 +14,7 @@ use Rattle.pattern.specs.declared.refusal.Verdict.the-variants.{Accepted}
 use Rattle.pattern.specs.declared.refusal.Verdict.the-variants.{Refused as Turned}
 use Rattle.pattern.specs.Tests.{inputVerdict}
 use Rattle.matching.specs.Occurrences.{occurrences}
-use Rattle.matching.specs.Written.{written}
+use Rattle.basics.specs.Written.{written}
 use Rattle.matching.specs.declared.rows.Listed.the-variants.{Rows}
 use Rattle.matching.specs.declared.rows.Listed.the-variants.{Refused as Unlisted}
 use Rattle.counting.specs.declared.halves.Wide.{Wide}

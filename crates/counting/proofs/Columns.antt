@@ -11,8 +11,10 @@ use borrow.Author.Count.{below-more}
 use Rattle.pattern.specs.declared.Pattern.{Pattern}
 use Rattle.matching.specs.Occurrence.{View}
 use Rattle.matching.specs.Occurrences.{occurrencesIn, startingIn}
-use Rattle.matching.specs.Laws.Sums.{total, total-same}
-use Rattle.matching.specs.Laws.Branches.{when, stands, ways}
+use Rattle.basics.specs.Sums.{total}
+use Rattle.basics.specs.Laws.Sums.{total-same}
+use Rattle.basics.specs.Choice.{when}
+use Rattle.matching.specs.Laws.Branches.{stands, ways}
 use Rattle.matching.specs.Laws.Cover.{width, limit, least, count-each, count-all, tally-places}
 use Rattle.counting.specs.declared.gaps.Outline.{Outline}
 use Rattle.counting.specs.declared.window.Window.{Window}

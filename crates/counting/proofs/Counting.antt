@@ -13,8 +13,10 @@ use Rattle.pattern.specs.Accepted.{Accepted}
 use Rattle.matching.specs.Occurrence.{View}
 use Rattle.counting.specs.Laws.Inputs.{gaps}
 use Rattle.counting.specs.Inputs.{Input}
-use Rattle.matching.specs.Laws.Sums.{total, total-same, total-none, rest, run-inside, run-past}
-use Rattle.matching.specs.Laws.Branches.{when, stands, ways}
+use Rattle.basics.specs.Sums.{total, rest}
+use Rattle.basics.specs.Laws.Sums.{total-same, total-none, run-inside, run-past}
+use Rattle.basics.specs.Choice.{when}
+use Rattle.matching.specs.Laws.Branches.{stands, ways}
 use Rattle.matching.specs.Laws.Cover.{far}
 use Rattle.counting.specs.Laws.Bound.{total-fits}
 use Rattle.counting.specs.Numbers.{val}

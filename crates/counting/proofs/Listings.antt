@@ -7,13 +7,13 @@ use mathlib.Core.Bool.{true}
 use lib.ListN.{length, getD, take, length-append}
 use Rattle.pattern.specs.declared.Pattern.{Pattern}
 use Rattle.pattern.specs.Patterns.{slotAt}
-use Rattle.matching.specs.Collections.{Every}
+use Rattle.basics.specs.Collections.{Every}
 use Rattle.matching.specs.Occurrence.{View}
 use Rattle.matching.specs.Occurrences.{occurrencesIn, places}
-use Rattle.matching.specs.Written.{written}
-use Rattle.matching.specs.Laws.Collections.{every-map}
+use Rattle.basics.specs.Written.{written}
+use Rattle.basics.specs.Laws.Collections.{every-map}
 use Rattle.matching.specs.Laws.Enumeration.{occurrences-occur}
-use Rattle.matching.specs.Laws.Sums.{gather}
+use Rattle.basics.specs.Sums.{gather}
 use Rattle.matching.specs.Laws.Branches.{branches, length-branches, ways, tree, forest, occurrences-forest}
 use Rattle.matching.specs.Laws.Cover.{width, limit, least, covers-all, occurrences-each}
 use Rattle.counting.specs.declared.window.Window.{Window}

@@ -11,8 +11,9 @@ use lib.Seq.{getD-set-same, getD-set-other}
 use lib.Dec.{leb}
 use borrow.Author.Tests.{eq-eqb, ne-eqb, le-leb, lt-leb}
 use borrow.Author.Count.{below-more}
-use Rattle.matching.specs.Laws.Sums.{total, total-split, rest, rest-step}
-use Rattle.matching.specs.Laws.Branches.{when}
+use Rattle.basics.specs.Sums.{total, rest}
+use Rattle.basics.specs.Laws.Sums.{total-split, rest-step}
+use Rattle.basics.specs.Choice.{when}
 use Rattle.counting.specs.Numbers.{val}
 use Rattle.counting.specs.Steps.Fits.{fitted}
 use Rattle.counting.specs.Steps.Rows.{Room, Ended, Falling, Spread, Summable, Summed}

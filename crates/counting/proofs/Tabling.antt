@@ -12,8 +12,9 @@ use Rattle.pattern.specs.declared.Pattern.{Pattern}
 use Rattle.pattern.specs.Patterns.{slotAt}
 use Rattle.matching.specs.Occurrence.{View}
 use Rattle.matching.specs.Occurrences.{places}
-use Rattle.matching.specs.Laws.Sums.{gather}
-use Rattle.matching.specs.Laws.Branches.{only, stands, branches}
+use Rattle.basics.specs.Sums.{gather}
+use Rattle.basics.specs.Choice.{only}
+use Rattle.matching.specs.Laws.Branches.{stands, branches}
 use Rattle.counting.specs.declared.window.Window.{Window}
 use Rattle.counting.specs.Steps.Fits.{fitted, Fitted}
 use Rattle.counting.specs.Steps.Rows.{size, stopAt}

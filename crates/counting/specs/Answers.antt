@@ -8,7 +8,8 @@ use Rattle.pattern.specs.declared.refusal.Refusal.the-variants.{ListLength, Tal
 use Rattle.pattern.specs.declared.refusal.Verdict.{Verdict}
 use Rattle.pattern.specs.declared.refusal.Verdict.the-variants.{Accepted}
 use Rattle.pattern.specs.declared.refusal.Verdict.the-variants.{Refused as Turned}
-use Rattle.pattern.specs.Tests.{pick, inputVerdict}
+use Rattle.basics.specs.Choice.{pick}
+use Rattle.pattern.specs.Tests.{inputVerdict}
 use Rattle.matching.specs.Occurrences.{occurrences}
 use Rattle.matching.specs.Answers.{filled}
 use Rattle.matching.specs.declared.rows.Listed.{Listed}

@@ -2,3 +2,4 @@
 pub mod Inputs
 pub mod Bound
 pub mod Runs
+pub mod Stated

@@ -1,5 +1,5 @@
-use crate::numbers::clip;
-use crate::numbers::widen;
+use basics::smaller;
+use basics::widen;
 use pattern::Pattern;
 use pattern::Slot;
 ghost use mathlib.Core.Path.{_≡_};
@@ -54,7 +54,7 @@ fn unbound(least: usize, most: usize, near: usize, far: usize, n: usize) -> bool
     ensures { λ r. ⌜ r ≡ (leb least (near + 1) && leb (min (far + 1) n) most) ⌝ }
 {
     if least <= near + 1 {
-        if clip(far + 1, n) <= most {
+        if smaller(far + 1, n) <= most {
             return true;
         }
         return false;
@@ -91,7 +91,7 @@ impl Outline {
             low,
             high,
             reach: far,
-            span: clip(most, far + 1),
+            span: smaller(most, far + 1),
             least,
             unbound: unbound(least, most, near, far, n),
         }

@@ -3,7 +3,6 @@ mod fits;
 mod gaps;
 mod halves;
 mod listing;
-mod numbers;
 mod reach;
 mod total;
 mod walk;

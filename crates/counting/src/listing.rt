@@ -1,10 +1,10 @@
 use crate::fits::tabulate;
 use crate::gaps::Outline;
-use crate::numbers::clip;
 use crate::reach::reach_all;
 use crate::total::count;
 use crate::walk::walk;
 use crate::window::Window;
+use basics::smaller;
 use matching::Listed;
 use pattern::Pattern;
 use pattern::Refusal;
@@ -13,7 +13,7 @@ ghost use mathlib.Core.Path.{_≡_};
 ghost use Prim.Native.Nat.{_<_, _≤_};
 ghost use lib.ListN.{length};
 ghost use Rattle.matching.specs.Occurrences.{occurrencesIn};
-ghost use Rattle.matching.specs.Written.{written};
+ghost use Rattle.basics.specs.Written.{written};
 ghost use Rattle.counting.specs.Answers.{allListed, allWritten};
 ghost use Rattle.counting.specs.Steps.Plans.{knownView, planRows};
 ghost use Rattle.counting.specs.Steps.Listings.{PutWhole, PutEach, PutAll};
@@ -66,7 +66,7 @@ fn put_each(
         if fits[i] == 1 {
             let w = Window {
                 first: i,
-                places: clip(span, n - i),
+                places: smaller(span, n - i),
                 starts: 1,
                 from: i + least,
             };

@@ -1,6 +1,6 @@
-use crate::numbers::clip;
-use crate::numbers::widen;
 use crate::window::Window;
+use basics::smaller;
+use basics::widen;
 ghost use mathlib.Core.Path.{_≡_};
 ghost use mathlib.Core.Bool.{_&&_};
 ghost use Prim.Native.Nat.{_+_, _<_, _≤_};
@@ -72,7 +72,7 @@ fn reach_on(
         i -= 1;
         let k = at + i;
         let d = base + i;
-        let c = base + 20001 + clip(i + low + 1, m);
+        let c = base + 20001 + smaller(i + low + 1, m);
         if holds(fits[k], widen(next[c]), i + high + 1) {
             q = i as u16;
             next[d] = q;
@@ -100,14 +100,14 @@ pub(crate) fn reach_all(
     let first = w.first;
     let mut j = m - 1;
     let mut r = reach;
-    let mut n = clip(w.places, w.starts + r);
+    let mut n = smaller(w.places, w.starts + r);
     reach_last(fits, j * 20000 + first, first, n, w.from, j * 20001, next);
     while 0 < j {
         let narrow = widen(low[j]);
         let wide = widen(high[j]);
         j -= 1;
         r = r - wide - 1;
-        let k = clip(w.places, w.starts + r);
+        let k = smaller(w.places, w.starts + r);
         reach_on(fits, j * 20000 + first, narrow, wide, k, n, j * 20001, next);
         n = k;
     }

@@ -2,9 +2,9 @@ use crate::fits::tabulate;
 use crate::gaps::Outline;
 use crate::halves::Wide;
 use crate::halves::add;
-use crate::numbers::clip;
 use crate::window::Window;
 use crate::window::ways;
+use basics::smaller;
 use pattern::Pattern;
 use pattern::Refusal;
 use pattern::Verdict;
@@ -13,7 +13,7 @@ ghost use mathlib.Core.Bool.{true};
 ghost use Prim.Native.Nat.{_^_, _<_, _≤_};
 ghost use lib.ListN.{length};
 ghost use Rattle.matching.specs.Laws.Cover.{width};
-ghost use Rattle.matching.specs.Laws.Sums.{total};
+ghost use Rattle.basics.specs.Sums.{total};
 ghost use Rattle.matching.specs.Occurrences.{occurrencesIn};
 ghost use Rattle.counting.specs.Numbers.{value, val};
 ghost use Rattle.counting.specs.Steps.Plans.{Known, knownView, Plan, planPattern, planView, unbound};
@@ -72,7 +72,7 @@ fn each(
         if fits[i] == 1 {
             let w = Window {
                 first: i,
-                places: clip(span, n - i),
+                places: smaller(span, n - i),
                 starts: 1,
                 from: i + least,
             };

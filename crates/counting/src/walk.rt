@@ -1,5 +1,5 @@
-use crate::numbers::widen;
-use matching::put_row;
+use basics::put_row;
+use basics::widen;
 ghost use mathlib.Core.Path.{_≡_};
 ghost use Prim.Native.Nat.{_+_, _*_, _<_, _≤_};
 ghost use lib.ListN.{length, getD, take};

@@ -1,14 +1,14 @@
 use crate::halves::Wide;
 use crate::halves::add;
 use crate::halves::sub;
-use crate::numbers::clip;
-use crate::numbers::widen;
+use basics::smaller;
+use basics::widen;
 ghost use mathlib.Core.Path.{_≡_};
 ghost use mathlib.Core.Bool.{_&&_};
 ghost use Prim.Native.Nat.{_+_, _-_, _<_, _≤_};
 ghost use lib.ListN.{length};
 ghost use lib.Dec.{leb, eqb};
-ghost use Rattle.matching.specs.Laws.Branches.{when};
+ghost use Rattle.basics.specs.Choice.{when};
 ghost use Rattle.counting.specs.Steps.Plans.{Run, runPattern, runView};
 ghost use Rattle.counting.specs.Steps.Rows.{Room, Ended, Falling, Spread, Summable, Summed, Row};
 
@@ -71,8 +71,8 @@ fn spread(
     while i < n {
         let k = at + i;
         if fits[k] == 1 {
-            let a = clip(i + low + 1, m);
-            let b = clip(i + high + 2, m);
+            let a = smaller(i + low + 1, m);
+            let b = smaller(i + high + 2, m);
             let x = Wide {
                 hi: hi[a],
                 lo: lo[a],
@@ -136,14 +136,14 @@ pub(crate) fn ways(
     let first = w.first;
     let mut j = m - 1;
     let mut r = reach;
-    let mut n = clip(w.places, w.starts + r);
+    let mut n = smaller(w.places, w.starts + r);
     ends(fits, j * 20000 + first, first, n, w.from, hi, lo);
     while 0 < j {
         let narrow = widen(low[j]);
         let wide = widen(high[j]);
         j -= 1;
         r = r - wide - 1;
-        let k = clip(w.places, w.starts + r);
+        let k = smaller(w.places, w.starts + r);
         sums(n, hi, lo);
         spread(fits, j * 20000 + first, narrow, wide, k, n, hi, lo);
         n = k;

@@ -16,7 +16,7 @@ use Rattle.matching.specs.Searches.{earliest}
 use Rattle.matching.specs.Answers.{rowVerdict, searched, firstAfter}
 use Rattle.matching.specs.Laws.Extremes.{earliest-some}
 use Rattle.matching.specs.declared.searches.Search.{Search}
-use Rattle.matching.specs.Written.{rowOver}
+use Rattle.basics.specs.Written.{rowOver}
 use Rattle.cursors.specs.declared.Cursors.{Cursors}
 use Rattle.cursors.specs.declared.Served.{Served}
 use Rattle.cursors.specs.Machine.{servedBy, marksOver, moved, keptBy}

@@ -3,3 +3,4 @@ pub mod Admitting
 pub mod Giving
 pub mod Numbering
 pub mod Running
+pub mod Stated

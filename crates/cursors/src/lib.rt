@@ -1,8 +1,8 @@
 // Four clients that are served occurrences one after the other, each from where it stands (document 01: the editors' desk).
+use basics::put_row;
 use matching::Outcome;
 use matching::Search;
 use matching::first_after;
-use matching::put_row;
 use pattern::Pattern;
 use pattern::Refusal;
 use pattern::Verdict;

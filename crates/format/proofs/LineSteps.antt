@@ -9,9 +9,9 @@ use mathlib.Core.List.{List, [], _∷_, _++_, map}
 use mathlib.Core.Path.{_≡_, refl, sym, _∙_, ap}
 use lib.Dec.{eqb, ltb}
 use lib.ListN.{length, getD, take, drop, set, drop-of-length-le, length-drop}
-use lib.Seq.{drop-cons, drop-drop, drop-length, paste, paste-suc, take-all, take-length}
+use lib.Seq.{drop-cons, drop-drop, drop-length, paste, paste-suc, take-length}
 use borrow.Author.Tests.{eqb-true, le-ltb, lt-ltb, ltb-false, ltb-true}
-use Rattle.pattern.specs.Tests.{pick}
+use Rattle.basics.specs.Choice.{pick}
 use Rattle.format.specs.Bytes.{cut, decimal, ended, lines, onFirst}
 use Rattle.format.specs.Layouts.{scan}
 use Rattle.format.specs.Texts.{over}
@@ -83,7 +83,7 @@ open-line h e = record { is = h .is; last = h .last e }
 pub closed-line : {s : List ℕ} {at : ℕ} {l : Line} → Lined s at l → (l .end ≡ l .next → ⊥) → Closed s at l
 closed-line h e = record { is = h .is; inside = h .after e .0; after = h .after e .1 }
 
-cut-within : (t : List ℕ) (sep : ℕ) → cut t sep ≤ length t
+pub cut-within : (t : List ℕ) (sep : ℕ) → cut t sep ≤ length t
 unfolding cut
 cut-within [] sep = omega arith
 cut-within (b ∷ t) sep = go (eqb b sep) (cut-within t sep)
@@ -229,10 +229,6 @@ pasted-more d ws i v hd hs e =
 pub pasted-all : (d ws : List ℕ) → paste d 0 ws (length ws) ≡ over d ws
 pasted-all d ws =
     ap (λ (l : List ℕ). l ++ drop (0 + length ws) d) (take-length ws) ∙ ap (λ (k : ℕ). ws ++ drop k d) (zero-add (length ws))
-
--- the part from `at` to the end
-pub tail-is : (xs : List ℕ) (at : ℕ) → at ≤ length xs → take (length xs - at) (drop at xs) ≡ drop at xs
-tail-is xs at h = take-all (length xs - at) (drop at xs) (omega (arith, length-drop at xs))
 
 -- ---- the line at a place
 

@@ -9,7 +9,7 @@ use lib.Dec.{eqb, ltb}
 use lib.ListN.{length, getD, take, drop, length-drop}
 use lib.Seq.{drop-cons, drop-drop, drop-length, take-all}
 use borrow.Author.Tests.{eq-eqb, ltb-false, ltb-true, ne-eqb}
-use Rattle.pattern.specs.Tests.{pick}
+use Rattle.basics.specs.Choice.{pick}
 use Rattle.format.specs.Bytes.{allNumbers, cut, isNumber, onFirst, parts, same}
 use Rattle.format.specs.Names.{column}
 

@@ -5,6 +5,7 @@ use mathlib.Core.List.{List, [], _∷_, _++_, map, append-assoc}
 use mathlib.Core.Path.{_≡_, refl, sym, _∙_, ap}
 use lib.ListN.{length, getD, take, drop, set, replicate, List·getD-map, length-append, length-set}
 use lib.Seq.{drop-length, set-at, set-out, take-nil}
+use Rattle.basics.specs.Laws.Arrays.{drop-replicate}
 use Rattle.pattern.specs.Patterns.{emptySlot, padded}
 use Rattle.pattern.specs.declared.slot.Slot.{Slot}
 use Rattle.format.specs.Bytes.{decimal, lines, parts, value}
@@ -59,11 +60,6 @@ filled-from (s ∷ ss) pre (p ∷ post) n e =
     ap (λ (l : List Slot). filled l ss (n + 1)) (set-at pre p post s n e ∙ sym (append-assoc pre (s ∷ []) post))
     ∙ filled-from ss (pre ++ (s ∷ [])) post (n + 1) (length-append pre (s ∷ []) ∙ omega arith)
     ∙ append-assoc pre (s ∷ []) (take (length post) ss ++ drop (length ss) post)
-
-drop-replicate : (n m : ℕ) (a : Slot) → drop n (replicate m a) ≡ replicate (m - n) a
-drop-replicate zero m a = let z : m ≡ m - 0 = omega arith in ap (λ (k : ℕ). replicate k a) z
-drop-replicate (suc n) zero a = let z : 0 ≡ 0 - suc n = omega arith in ap (λ (k : ℕ). replicate k a) z
-drop-replicate (suc n) (suc m) a = let z : m - n ≡ suc m - suc n = omega arith in drop-replicate n m a ∙ ap (λ (k : ℕ). replicate k a) z
 
 -- from the start of sixteen unused slots: the first sixteen of them
 pub filled-first : (ss : List Slot) → filled (replicate 16 emptySlot) ss 0 ≡ firstSlots ss

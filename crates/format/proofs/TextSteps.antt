@@ -18,7 +18,8 @@ use Rattle.format.specs.declared.layout.Layout.the-variants.{Right, Wron
 use Rattle.format.specs.declared.reader.Line.{Line}
 use Rattle.format.specs.declared.texts.TextRead.{TextRead}
 use Rattle.format.specs.declared.texts.TextRead.the-variants.{Refused, Words}
-use Rattle.format.proofs.LineSteps.{Closed, Open, closed-ended, closed-lines, open-lines, scan-count, tail-is}
+use Rattle.basics.specs.Laws.Lending.{tail-is}
+use Rattle.format.proofs.LineSteps.{Closed, Open, closed-ended, closed-lines, open-lines, scan-count}
 
 -- the contract of the reader, of its answer and of the caller's list
 pub record Done (s out : List ℕ) (a : TextRead) (last : List ℕ) : Type 0 where

@@ -9,7 +9,7 @@ use Rattle.pattern.specs.declared.refusal.Refusal.the-variants.{FileLength}
 use Rattle.pattern.specs.declared.refusal.Verdict.{Verdict}
 use Rattle.pattern.specs.declared.refusal.Verdict.the-variants.{Accepted, Refused}
 use Rattle.pattern.specs.Patterns.{emptyPattern}
-use Rattle.pattern.specs.Tests.{pick}
+use Rattle.basics.specs.Choice.{pick}
 use Rattle.format.specs.Texts.{textRead, textWritten}
 use Rattle.format.specs.Patterns.{patternRead}
 use Rattle.format.specs.declared.input.InputRead.{InputRead}

@@ -11,7 +11,8 @@ use Rattle.pattern.specs.declared.refusal.Refusal.the-variants.{Names, Values, 
 use Rattle.pattern.specs.declared.refusal.Verdict.{Verdict}
 use Rattle.pattern.specs.declared.refusal.Verdict.the-variants.{Accepted, Refused}
 use Rattle.pattern.specs.Patterns.{emptySlot, emptyPattern, slotOf}
-use Rattle.pattern.specs.Tests.{pick, patternVerdict}
+use Rattle.basics.specs.Choice.{pick}
+use Rattle.pattern.specs.Tests.{patternVerdict}
 use Rattle.format.specs.Bytes.{lines, ended, parts, fields, field, value, isNumber, allNumbers}
 use Rattle.format.specs.Layouts.{scan}
 use Rattle.format.specs.Names.{leastName, mostName, column, spanNames, slotNames, columnsOf}

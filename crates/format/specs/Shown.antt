@@ -1,20 +1,17 @@
 -- The other face of the format, stated by printing: the bytes of a file that shows a text or a pattern.
-use Prim.Native.Nat.{ℕ, zero, suc, _+_, _/_, _%_, _≤_, _<_}
+use Prim.Native.Nat.{ℕ, _≤_, _<_}
 use mathlib.Core.List.{List, [], _∷_, _++_, map}
-use lib.Dec.{ltb, eqb}
+use lib.Dec.{eqb}
 use lib.ListN.{length}
-use Rattle.pattern.specs.Tests.{pick}
+use Rattle.basics.specs.Choice.{pick}
+use Rattle.basics.specs.Digits.{digitsIn}
 use Rattle.format.specs.Names.{wordName, leastName, mostName, lowName, highName, wordsName}
 use Rattle.format.specs.Patterns.{SlotLine}
 use Rattle.format.specs.declared.names.Columns.{Columns}
 
 -- ---- numbers, lines, fields
 
--- a number's digits in base ten, at most f + 1 of them
-unfoldable pub digitsIn : ℕ → ℕ → List ℕ
-digitsIn zero n = (48 + n) ∷ []
-digitsIn (suc f) n = pick (ltb n 10) ((48 + n) ∷ []) (digitsIn f (n / 10) ++ ((48 + n % 10) ∷ []))
-
+-- the digits of a number up to 65535
 unfoldable pub digits : ℕ → List ℕ
 digits n = digitsIn 4 n
 

@@ -18,6 +18,7 @@ pub use reader::Line;
 pub use reader::Reader;
 pub use reader::line_at;
 pub use reader::next_line;
+pub use reader::past_line;
 pub use reader::resume;
 pub use texts::TextRead;
 pub use texts::read_text;

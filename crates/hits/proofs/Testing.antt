@@ -7,7 +7,7 @@ use mathlib.Core.Path.{_≡_}
 use lib.ListN.{length}
 use Rattle.pattern.specs.declared.slot.Slot.{Slot}
 use Rattle.pattern.specs.declared.Pattern.{Pattern}
-use Rattle.pattern.specs.Laws.Accepting.{is-false}
+use Rattle.basics.specs.Laws.Choice.{is-false}
 use Rattle.matching.specs.Occurrence.{plain, at}
 use Rattle.matching.specs.Occurrences.{occurs}
 use Rattle.hits.specs.Steps.{Decides, Sized, PlaceFits, GapFits, SpanFits, WordsFit, GapsFit}

@@ -6,7 +6,7 @@ use lib.ListN.{take, drop}
 use Rattle.pattern.specs.declared.Pattern.{Pattern}
 use Rattle.pattern.specs.declared.refusal.Verdict.{Verdict}
 use Rattle.pattern.specs.declared.refusal.Verdict.the-variants.{Accepted, Refused}
-use Rattle.pattern.specs.Tests.{pick}
+use Rattle.basics.specs.Choice.{pick}
 use Rattle.matching.specs.Occurrence.{at}
 use Rattle.matching.specs.Occurrences.{occurs}
 use Rattle.matching.specs.Answers.{rowVerdict}

@@ -1,4 +1,5 @@
 // Whether a row is an occurrence (document 01: a hit), and the part of the text that it spans. The meaning stands in matching/specs.
+use basics::widen;
 use matching::row_verdict;
 use pattern::Pattern;
 use pattern::Refusal;
@@ -14,13 +15,6 @@ pub enum Tested {
     Yes,
     No,
     Refused(Refusal),
-}
-
-// A place or a gap as a number to count with.
-fn wide(x: u16) -> usize
-    ensures { λ r. ⌜ (r ≡ x) × (r < 65536) ⌝ }
-{
-    x as usize
 }
 
 // Whether the place is in the text, and its word one that the slot takes.
@@ -46,7 +40,7 @@ fn words_fit(pattern: Pattern, text: &[u16], row: &[u16]) -> bool
     let mut j = 0;
     while j < m {
         let s = pattern.slots[j];
-        let fits = place_fits(s, text, wide(row[j]));
+        let fits = place_fits(s, text, widen(row[j]));
         if !fits {
             return false;
         }
@@ -79,7 +73,7 @@ fn gaps_fit(pattern: Pattern, row: &[u16]) -> bool
     while j < m {
         let s = pattern.slots[j];
         let i = j - 1;
-        let fits = gap_fits(wide(row[i]), wide(row[j]), wide(s.low), wide(s.high));
+        let fits = gap_fits(widen(row[i]), widen(row[j]), widen(s.low), widen(s.high));
         if !fits {
             return false;
         }
@@ -120,10 +114,10 @@ pub fn is_occurrence(pattern: Pattern, text: &[u16], row: &[u16]) -> Tested
     }
     let last = pattern.count - 1;
     let span = span_fits(
-        wide(row[0]),
-        wide(row[last]),
-        wide(pattern.least),
-        wide(pattern.most),
+        widen(row[0]),
+        widen(row[last]),
+        widen(pattern.least),
+        widen(pattern.most),
     );
     if !span {
         return Tested::No;
@@ -143,7 +137,7 @@ pub fn excerpt<'a, 'b>(pattern: Pattern, text: &'a [u16], row: &'b [u16]) -> &'a
         Tested::Refused(_) => return &text[0..0],
     }
     let last = pattern.count - 1;
-    let a = wide(row[0]) - 1;
-    let e = wide(row[last]);
+    let a = widen(row[0]) - 1;
+    let e = widen(row[last]);
     &text[a..e]
 }

@@ -9,7 +9,7 @@ use mathlib.Core.Path.{_≡_, refl, sym, ap, _∙_}
 use lib.ListN.{length, take, replicate, length-append, length-replicate, List·getD-append}
 use lib.Seq.{getD-take, length-take-le, ext-getD, getD-append-add}
 use Rattle.pattern.specs.declared.Pattern.{Pattern}
-use Rattle.pattern.specs.Laws.Arrays.{zeros-at, at-past}
+use Rattle.basics.specs.Laws.Arrays.{zeros-at, at-past}
 use Rattle.matching.specs.declared.search.Answer.{Answer}
 use Rattle.matching.specs.Occurrence.{View, plain, at}
 use Rattle.matching.specs.Searches.{earliest, latest}

@@ -12,8 +12,8 @@ use Rattle.pattern.specs.declared.Pattern.{Pattern}
 use Rattle.pattern.specs.Patterns.{slotAt}
 use Rattle.pattern.specs.Numbers.{Numbers}
 use Rattle.matching.specs.Occurrence.{at}
-use Rattle.matching.specs.Written.{rowOver}
-use Rattle.matching.specs.Laws.Lending.{row-pasted}
+use Rattle.basics.specs.Written.{rowOver}
+use Rattle.basics.specs.Laws.Lending.{row-pasted}
 use Rattle.matching.specs.Steps.Settling.{Ready}
 use Rattle.matching.specs.Steps.Layout.{LaidSlot, SlotLaid, LaidOut, Plan}
 

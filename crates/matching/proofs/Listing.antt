@@ -15,15 +15,16 @@ use Rattle.pattern.specs.declared.refusal.Verdict.the-variants.{Accepted}
 use Rattle.pattern.specs.Laws.Accepting.{input-accepted}
 use Rattle.matching.specs.declared.rows.Listed.{Listed}
 use Rattle.matching.specs.declared.rows.Listed.the-variants.{Rows, Refused}
-use Rattle.matching.specs.Collections.{Every}
+use Rattle.basics.specs.Collections.{Every}
 use Rattle.matching.specs.Occurrence.{View, plain}
 use Rattle.matching.specs.Lists.{leftmost, leftmostIn}
-use Rattle.matching.specs.Written.{flat, written}
+use Rattle.basics.specs.Written.{flat, written}
 use Rattle.matching.specs.Answers.{listed, filled, Best}
 use Rattle.matching.specs.Steps.Settling.{Ready, Entries}
 use Rattle.matching.specs.Steps.Turning.{viewed, flip}
 use Rattle.matching.specs.Steps.Listing.{Faces, Room, shownRows, stored}
-use Rattle.matching.specs.Laws.Collections.{every-map}
+use Rattle.basics.specs.Laws.Collections.{every-map}
+use Rattle.basics.specs.Laws.Written.{length-flat}
 use Rattle.matching.specs.Laws.Direction.{forwards}
 use Rattle.matching.specs.Laws.Bounding.{greedy-hits}
 use Rattle.matching.specs.Laws.Extremes.{leftmost-front, back-unique}
@@ -31,7 +32,6 @@ use Rattle.matching.specs.Laws.Largest.{largest}
 use Rattle.matching.specs.Laws.Lengths.{leftmost-length}
 use Rattle.matching.specs.Laws.Mirror.{front-back-list}
 use Rattle.matching.specs.Laws.Turning.{turned-facing, turned-ready}
-use Rattle.matching.proofs.Writing.{length-flat}
 use Rattle.matching.proofs.Reversing.{flat-reversed}
 
 -- ---- the rows turned round

@@ -10,7 +10,7 @@ use Rattle.pattern.specs.declared.slot.Slot.{Slot}
 use Rattle.pattern.specs.Patterns.{takes}
 use Rattle.matching.specs.Occurrence.{wordAt, takesAt}
 use Rattle.matching.specs.Steps.Turning.{seen}
-use Rattle.matching.specs.Laws.Collections.{getD-reverse}
+use Rattle.basics.specs.Laws.Collections.{getD-reverse}
 
 -- one more place whose word the slot takes, or does not: w is the word, and r whether it is taken
 pub told : (s : Slot) {v w : ℕ} {r : Bool} → w ≡ v → r ≡ takes s w → r ≡ true → takes s v ≡ true

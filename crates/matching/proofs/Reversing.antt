@@ -7,7 +7,7 @@ use mathlib.Core.Path.{_≡_, refl, sym, ap, _∙_}
 use lib.ListN.{length, take, drop, set, length-append, length-set, length-drop, List·getD-append}
 use lib.Seq.{getD-set-same, getD-set-other, getD-take, getD-drop, length-take-le, ext-getD, getD-append-add}
 use Rattle.matching.specs.Occurrence.{at}
-use Rattle.matching.specs.Written.{flat}
+use Rattle.basics.specs.Written.{flat}
 use Rattle.matching.specs.Steps.Turning.{flip}
 use Rattle.matching.specs.Laws.Mirror.{length-flip, flip-opposite}
 use Rattle.matching.proofs.Writing.{flat-append, flat-one}

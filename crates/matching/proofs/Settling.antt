@@ -8,7 +8,7 @@ use native.Mathlib.Omega.{arith}
 use lib.ListN.{length, take, set, length-set}
 use lib.Seq.{getD-take, getD-set-other, length-take-le}
 use Rattle.pattern.specs.declared.Pattern.{Pattern}
-use Rattle.pattern.specs.Laws.Arrays.{set-more}
+use Rattle.basics.specs.Laws.Arrays.{set-more}
 use Rattle.matching.specs.declared.search.Answer.{Answer}
 use Rattle.matching.specs.Occurrence.{View, OccursIn, at}
 use Rattle.matching.specs.Rows.{Before, NotAfter}

@@ -8,7 +8,7 @@ use Rattle.pattern.specs.declared.Pattern.{Pattern}
 use Rattle.pattern.specs.declared.slot.Slot.{Slot}
 use Rattle.pattern.specs.Patterns.{takes, slotAt, withGap}
 use Rattle.pattern.specs.Laws.Slots.{takes-gap}
-use Rattle.pattern.specs.Laws.Arrays.{zeros-at, set-more, set-rest}
+use Rattle.basics.specs.Laws.Arrays.{zeros-at, set-more, set-rest}
 use Rattle.matching.specs.Occurrence.{at}
 use Rattle.matching.specs.Steps.Turning.{Gap, TurnedSlot, Flipped}
 

@@ -1,7 +1,7 @@
 -- The list as the rows are written into it, one after the other. Assumes nothing.
 use Prim.Native.Nat.{ℕ, _+_, _*_, _≤_, _<_}
 use native.Mathlib.Omega.{arith}
-use native.Mathlib.Nat.{add-mul, one-mul, suc-mul, zero-mul, mul-le-mul-right, mul-le-mul}
+use native.Mathlib.Nat.{add-mul, one-mul, zero-mul, mul-le-mul-right, mul-le-mul}
 use mathlib.Core.List.{List, [], _∷_, _++_, append-assoc, append-nil}
 use mathlib.Core.Bool.{true, false}
 use mathlib.Core.Path.{_≡_, refl, sym, ap, _∙_}
@@ -9,12 +9,13 @@ use lib.ListN.{length, take, drop, replicate, length-append, length-drop, take-a
 use lib.Seq.{paste, length-take-le, take-append-seam, drop-append-add, drop-append-seam, drop-drop}
 use Rattle.pattern.specs.declared.Pattern.{Pattern}
 use Rattle.matching.specs.declared.search.Answer.{Answer}
-use Rattle.matching.specs.Collections.{Every, none, more}
+use Rattle.basics.specs.Collections.{Every}
 use Rattle.matching.specs.Occurrence.{View}
 use Rattle.matching.specs.Lists.{leftmostIn}
-use Rattle.matching.specs.Written.{flat, written}
+use Rattle.basics.specs.Written.{flat, written}
 use Rattle.matching.specs.Steps.Settling.{Ready, Answered}
-use Rattle.matching.specs.Laws.Collections.{every-map}
+use Rattle.basics.specs.Laws.Collections.{every-map}
+use Rattle.basics.specs.Laws.Written.{length-flat}
 use Rattle.matching.specs.Laws.Greedy.{run-hits}
 use Rattle.matching.proofs.Finding.{Counted, counted-begin, counted-more, counted-all, counted-within}
 
@@ -28,11 +29,6 @@ flat-append (r ∷ F) G = ap (λ (l : List ℕ). r ++ l) (flat-append F G) ∙ s
 pub flat-one : (r : List ℕ) → flat (r ∷ []) ≡ r
 unfolding flat
 flat-one r = append-nil r
-
-pub length-flat : (m : ℕ) {F : List (List ℕ)} → Every (λ r. length r ≡ m) F → length (flat F) ≡ length F * m
-unfolding flat
-length-flat m none = omega arith
-length-flat m (more {x = r} {xs = F} e h) = omega (arith, length-append r (flat F), length-flat m h, suc-mul (length F) m)
 
 -- a row in the place of as many words
 paste-mid : (X Y Z row : List ℕ) (n : ℕ) → length Y ≡ n → paste (X ++ (Y ++ Z)) (length X) row n ≡ X ++ (take n row ++ Z)

@@ -10,7 +10,8 @@ use Rattle.pattern.specs.declared.Pattern.{Pattern}
 use Rattle.pattern.specs.declared.refusal.Refusal.the-variants.{RowLength, ListLength}
 use Rattle.pattern.specs.declared.refusal.Verdict.{Verdict}
 use Rattle.pattern.specs.declared.refusal.Verdict.the-variants.{Accepted, Refused}
-use Rattle.pattern.specs.Tests.{pick, refuse, andThen, inputVerdict}
+use Rattle.basics.specs.Choice.{pick}
+use Rattle.pattern.specs.Tests.{refuse, andThen, inputVerdict}
 use Rattle.matching.specs.declared.search.Answer.{Answer}
 use Rattle.matching.specs.declared.searches.Search.{Search}
 use Rattle.matching.specs.declared.searches.Outcome.the-variants.{Found, Absent, Refused as NotSearched}
@@ -18,7 +19,7 @@ use Rattle.matching.specs.declared.rows.Listed.{Listed}
 use Rattle.matching.specs.declared.rows.Listed.the-variants.{Rows, Refused as NotListed}
 use Rattle.matching.specs.Searches.{earliest, latest}
 use Rattle.matching.specs.Lists.{leftmost, rightmost}
-use Rattle.matching.specs.Written.{written}
+use Rattle.basics.specs.Written.{written}
 use Rattle.matching.specs.Largest.{Largest}
 
 -- 1 to 6, then 7, of a row or of marks

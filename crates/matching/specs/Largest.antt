@@ -5,7 +5,7 @@ use mathlib.Core.List.{List, []}
 use lib.ListN.{length, getD}
 use Rattle.pattern.specs.declared.Pattern.{Pattern}
 use Rattle.matching.specs.Occurrence.{View, plain, OccursIn}
-use Rattle.matching.specs.Collections.{Every}
+use Rattle.basics.specs.Collections.{Every}
 use Rattle.matching.specs.Nonoverlap.{NonoverlappingIn}
 use Rattle.matching.specs.Rows.{NotAfter}
 use Rattle.matching.specs.Rising.{rising}

@@ -1,5 +1,4 @@
 -- What follows from the definitions.
-pub mod Collections
 pub mod Tests
 pub mod Enumeration
 pub mod Sorting
@@ -8,7 +7,6 @@ pub mod Rising
 pub mod Lattice
 pub mod Direction
 pub mod Greedy
-pub mod Sums
 pub mod Ordering
 pub mod Branches
 pub mod Cover
@@ -22,4 +20,4 @@ pub mod Texts
 pub mod Mirror
 pub mod Turning
 pub mod Ready
-pub mod Lending
+pub mod Stated

@@ -1,6 +1,5 @@
 -- The meanings, in the order of document 004's Definitions 3 to 6. `Laws` has what follows from them.
 pub mod Occurrence
-pub mod Collections
 pub mod Occurrences
 pub mod Rows
 pub mod Searches
@@ -8,7 +7,6 @@ pub mod Nonoverlap
 pub mod Lists
 pub mod Rising
 pub mod Largest
-pub mod Written
 pub mod Answers
 pub mod Texts
 pub mod Steps

@@ -3,7 +3,7 @@ use Prim.Native.Nat.{ℕ}
 use mathlib.Core.List.{List}
 use Rattle.pattern.specs.declared.Pattern.{Pattern}
 use Rattle.matching.specs.Occurrence.{View, plain, OccursIn, Apart}
-use Rattle.matching.specs.Collections.{Every, Pairwise}
+use Rattle.basics.specs.Collections.{Every, Pairwise}
 
 pub record NonoverlappingIn (f : Pattern) (v : View) (H : List (List ℕ)) : Type 0 where
   pub occur : Every (OccursIn f v) H

@@ -8,7 +8,7 @@ use lib.Dec.{leb, eqb}
 use Rattle.pattern.specs.declared.Pattern.{Pattern}
 use Rattle.pattern.specs.Patterns.{slotAt}
 use Rattle.matching.specs.Occurrence.{View, plain, at}
-use Rattle.matching.specs.Collections.{select}
+use Rattle.basics.specs.Collections.{select}
 
 -- ---- the test of Definition 3
 

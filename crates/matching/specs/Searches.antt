@@ -5,7 +5,7 @@ use mathlib.Core.List.{List, [], _∷_}
 use mathlib.Core.Option.{Option, none, some}
 use Rattle.pattern.specs.declared.Pattern.{Pattern}
 use Rattle.matching.specs.Occurrence.{View, plain}
-use Rattle.matching.specs.Collections.{select}
+use Rattle.basics.specs.Collections.{select}
 use Rattle.matching.specs.Occurrences.{occurrencesIn}
 use Rattle.matching.specs.Rows.{before, meet, join}
 

@@ -7,7 +7,7 @@ use lib.ListN.{length, replicate}
 use Rattle.pattern.specs.declared.slot.Slot.{Slot}
 use Rattle.pattern.specs.declared.Pattern.{Pattern}
 use Rattle.pattern.specs.Patterns.{emptySlot, slotOf}
-use Rattle.pattern.specs.Accepted.{Accepted}
+use Rattle.pattern.specs.Accepted.{Accepted, AcceptedInput}
 use Rattle.matching.specs.Occurrence.{Occurs}
 use Rattle.matching.specs.Occurrences.{occurrences}
 use Rattle.matching.specs.Searches.{earliest, latest}
@@ -72,8 +72,9 @@ text-eight = 1 ∷ 2 ∷ 3 ∷ 3 ∷ []
 unfoldable pub pattern-eight : Pattern
 pattern-eight = patternOf (oneWord 1 0 0 ∷ oneWord 2 0 2 ∷ oneWord 3 0 2 ∷ []) 4 4
 
--- all occurrences, the front list, the back list, the count and the tally
+-- pattern and text are accepted; all occurrences, the front list, the back list, the count and the tally
 pub record Results (f : Pattern) (t : List ℕ) (hits front back : List (List ℕ)) (count tally : ℕ) : Type 0 where
+  pub accepted : AcceptedInput f (length t)
   pub all-hits : occurrences f t ≡ hits
   pub front-list : leftmost f t ≡ front
   pub back-list : rightmost f t ≡ back

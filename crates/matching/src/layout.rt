@@ -1,4 +1,4 @@
-use crate::rows::put_row;
+use basics::put_row;
 use pattern::Pattern;
 use pattern::Slot;
 ghost use Prim.Native.Nat.{_+_, _≤_};

@@ -12,7 +12,6 @@ pub use lists::leftmost;
 pub use lists::rightmost;
 pub use lists::support;
 pub use rows::Listed;
-pub use rows::put_row;
 pub use searches::Outcome;
 pub use searches::Search;
 pub use searches::first_after;

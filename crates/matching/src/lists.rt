@@ -1,10 +1,10 @@
 use crate::layout::lay_out;
 use crate::mirror::minus;
 use crate::mirror::turned;
-use crate::places::wide;
 use crate::rows::Listed;
-use crate::rows::put_row;
 use crate::search::advance;
+use basics::put_row;
+use basics::widen;
 use pattern::Pattern;
 use pattern::Refusal;
 use pattern::Verdict;
@@ -14,7 +14,7 @@ ghost use Prim.Native.Nat.{_≤_};
 ghost use lib.ListN.{length, take, drop};
 ghost use Rattle.pattern.specs.Tests.{inputVerdict};
 ghost use Rattle.matching.specs.Lists.{leftmost, leftmostIn, rightmost};
-ghost use Rattle.matching.specs.Written.{written};
+ghost use Rattle.basics.specs.Written.{written};
 ghost use Rattle.matching.specs.Answers.{listed, filled, counted, Best};
 ghost use Rattle.matching.specs.Steps.Settling.{Ready, Entries};
 ghost use Rattle.matching.specs.Steps.Turning.{viewed, flip};
@@ -78,8 +78,8 @@ fn turn_back(list: &mut [u16], size: usize, n: usize)
     let mut e = size;
     while i < e {
         let z = e - 1;
-        let x = minus(n + 1, wide(list[i])) as u16;
-        let y = minus(n + 1, wide(list[z])) as u16;
+        let x = minus(n + 1, widen(list[i])) as u16;
+        let y = minus(n + 1, widen(list[z])) as u16;
         list[i] = y;
         list[z] = x;
         i += 1;

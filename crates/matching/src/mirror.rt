@@ -1,4 +1,4 @@
-use crate::places::wide;
+use basics::widen;
 use pattern::Pattern;
 ghost use mathlib.Core.Path.{_≡_};
 ghost use Prim.Native.Nat.{_-_, _<_, _≤_};
@@ -57,7 +57,7 @@ pub(crate) fn flipped(row: [u16; 16], m: usize, n: usize) -> [u16; 16]
     let mut j = 0;
     while j < m {
         let i = m - 1 - j;
-        p[j] = minus(n + 1, wide(row[i])) as u16;
+        p[j] = minus(n + 1, widen(row[i])) as u16;
         j += 1;
     }
     p

@@ -1,19 +1,12 @@
 use pattern::Slot;
 ghost use mathlib.Core.Path.{_≡_};
-ghost use Prim.Native.Nat.{_≤_, _<_};
+ghost use Prim.Native.Nat.{_≤_};
 ghost use lib.ListN.{length};
 ghost use Rattle.pattern.specs.declared.slot.Slot.{Slot};
 ghost use Rattle.pattern.specs.Numbers.{Numbers};
 ghost use Rattle.matching.specs.Occurrence.{wordAt, takesAt};
 ghost use Rattle.matching.specs.Steps.Bounds.{First};
 ghost use Rattle.matching.specs.Steps.Turning.{seen};
-
-// A place or a gap as a number to count with.
-pub(crate) fn wide(x: u16) -> usize
-    ensures { λ r. ⌜ (r ≡ x) × (r < 65536) ⌝ }
-{
-    x as usize
-}
 
 // The word at a place, counted from the text's end where it is mirrored.
 fn word(text: &[u16], mirrored: bool, place: usize) -> u16

@@ -3,7 +3,7 @@ use crate::bounds::next;
 use crate::bounds::prior;
 use crate::layout::lay_out;
 use crate::places::first;
-use crate::places::wide;
+use basics::widen;
 use pattern::Pattern;
 ghost use lib.ListN.{length};
 ghost use Rattle.matching.specs.Steps.Settling.{Ready, Visited, Entries, Settled, Started, Answered, Spare};
@@ -37,13 +37,13 @@ fn visit(
     let from = need(
         j,
         m,
-        wide(p[j]),
-        wide(p[i]),
-        wide(p[k]),
-        wide(layout[at]),
-        wide(layout[after + 1]),
-        wide(least),
-        wide(most),
+        widen(p[j]),
+        widen(p[i]),
+        widen(p[k]),
+        widen(layout[at]),
+        widen(layout[after + 1]),
+        widen(least),
+        widen(most),
     );
     first(&layout[at..at + 11], text, mirrored, from)
 }
@@ -70,7 +70,7 @@ fn settle(
         if n < q {
             return false;
         }
-        if q == wide(p[j]) {
+        if q == widen(p[j]) {
             calm += 1;
             j = k;
         } else {
@@ -90,7 +90,7 @@ fn start(m: usize, n: usize, p: &mut [u16]) -> bool
     let mut j = 0;
     while j < m {
         let x = p[j];
-        if n <= wide(x) {
+        if n <= widen(x) {
             return false;
         }
         p[j] = x + 1;

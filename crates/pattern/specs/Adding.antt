@@ -9,7 +9,8 @@ use Rattle.pattern.specs.declared.refusal.Refusal.the-variants.{SlotCoun
 use Rattle.pattern.specs.declared.refusal.Verdict.{Verdict}
 use Rattle.pattern.specs.declared.refusal.Verdict.the-variants.{Accepted, Refused}
 use Rattle.pattern.specs.Patterns.{slotOf, withSlot}
-use Rattle.pattern.specs.Tests.{pick, slotVerdict}
+use Rattle.basics.specs.Choice.{pick}
+use Rattle.pattern.specs.Tests.{slotVerdict}
 
 -- what is given where the new slot's tests come to the verdict
 abbrev pub added : Verdict → Pattern → Slot → Extended

@@ -2,4 +2,4 @@
 pub mod Members
 pub mod Slots
 pub mod Accepting
-pub mod Arrays
+pub mod Stated

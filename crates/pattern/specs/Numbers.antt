@@ -7,7 +7,7 @@ use lib.ListN.{length, getD, take, drop}
 use lib.Dec.{ltb}
 use Rattle.pattern.specs.declared.slot.Slot.{Slot}
 use Rattle.pattern.specs.Patterns.{member}
-use Rattle.pattern.specs.Tests.{pick}
+use Rattle.basics.specs.Choice.{pick}
 
 pub record Numbers (s : Slot) (l : List ℕ) : Type 0 where
   pub is : l ≡ s .low ∷ s .high ∷ min (s .count) 8 ∷ s .words

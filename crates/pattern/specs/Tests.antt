@@ -1,7 +1,8 @@
 -- The tests 1 to 6 of document 01, "Turned away", in their order: the first that applies refuses.
 use Prim.Native.Nat.{ℕ, zero, suc, _+_}
-use mathlib.Core.Bool.{Bool, true, false}
+use mathlib.Core.Bool.{Bool}
 use lib.Dec.{ltb, eqb}
+use Rattle.basics.specs.Choice.{pick}
 use Rattle.pattern.specs.declared.slot.Slot.{Slot}
 use Rattle.pattern.specs.declared.Pattern.{Pattern}
 use Rattle.pattern.specs.declared.refusal.Refusal.{Refusal}
@@ -9,10 +10,6 @@ use Rattle.pattern.specs.declared.refusal.Refusal.the-variants.{SlotCoun
 use Rattle.pattern.specs.declared.refusal.Verdict.{Verdict}
 use Rattle.pattern.specs.declared.refusal.Verdict.the-variants.{Accepted, Refused}
 use Rattle.pattern.specs.Patterns.{takes, slotAt}
-
-abbrev pub pick : {A : Type 0} → Bool → A → A → A
-pick true a b = a
-pick false a b = b
 
 -- refused where the test applies, else as the later tests say
 abbrev pub refuse : Bool → Refusal → Verdict → Verdict

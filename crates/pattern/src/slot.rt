@@ -1,8 +1,10 @@
+use basics::smaller;
+use basics::widen;
 ghost use mathlib.Core.Path.{_≡_};
 ghost use Rattle.pattern.specs.Patterns.{slotOf, withGap, takes, member, padded};
 ghost use Rattle.pattern.specs.Numbers.{Numbers, numbersTake};
 ghost use lib.ListN.{take};
-ghost use Prim.Native.Nat.{min, _<_};
+ghost use Prim.Native.Nat.{min};
 
 // One element of a pattern (document 01: slot): the words it takes and the gap before it.
 #[repr(C)]
@@ -11,15 +13,6 @@ pub struct Slot {
     pub count: usize,
     pub low: u16,
     pub high: u16,
-}
-
-fn smaller(a: usize, b: usize) -> usize
-    ensures { λ r. ⌜ r ≡ min a b ⌝ }
-{
-    if a < b {
-        return a;
-    }
-    b
 }
 
 // Whether the word is one of the first `count` of the words.
@@ -35,13 +28,6 @@ fn lists(words: &[u16], count: usize, word: u16) -> bool
         i += 1;
     }
     false
-}
-
-// A number to count with.
-fn wide(x: u16) -> usize
-    ensures { λ r. ⌜ (r ≡ x) × (r < 65536) ⌝ }
-{
-    x as usize
 }
 
 // How many of a slot's eight words count.
@@ -91,13 +77,10 @@ impl Slot {
     pub fn with_gap(self, low: u16, high: u16) -> Self
         ensures { λ r. ⌜ r ≡ withGap self low high ⌝ }
     {
-        let words = self.words;
-        Slot {
-            words,
-            count: self.count,
-            low,
-            high,
-        }
+        let mut slot = self;
+        slot.low = low;
+        slot.high = high;
+        slot
     }
 
     // The slot as eleven numbers: the two bounds of its gap, how many words it lists, and its eight words.
@@ -127,6 +110,6 @@ impl Slot {
         if numbers.len() < 11 {
             return false;
         }
-        lists(&numbers[3..11], wide(numbers[2]), word)
+        lists(&numbers[3..11], widen(numbers[2]), word)
     }
 }

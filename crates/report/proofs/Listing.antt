@@ -1,12 +1,12 @@
 -- The two lists as they are printed: the entries of their rows, equally many. Assumes nothing.
 use Prim.Native.Nat.{ℕ, _-_, _*_, _≤_}
 use native.Mathlib.Omega.{arith}
-use native.Mathlib.Nat.{suc-mul, sub-zero}
+use native.Mathlib.Nat.{sub-zero}
 use mathlib.Core.Path.{_≡_, refl, sym, ap, _∙_}
 use mathlib.Core.Bool.{Bool, true, false}
 use mathlib.Core.List.{List}
 use lib.Dec.{ltb}
-use lib.ListN.{length, take, drop, replicate, length-append, length-replicate}
+use lib.ListN.{length, take, drop, replicate, length-replicate}
 use lib.Seq.{take-at}
 use borrow.Author.Tests.{ltb-false, le-ltb}
 use Rattle.pattern.specs.declared.Pattern.{Pattern}
@@ -15,24 +15,25 @@ use Rattle.pattern.specs.declared.refusal.Refusal.the-variants.{ListLength}
 use Rattle.pattern.specs.declared.refusal.Verdict.{Verdict}
 use Rattle.pattern.specs.declared.refusal.Verdict.the-variants.{Accepted, Refused}
 use Rattle.pattern.specs.Laws.Accepting.{input-accepted}
-use Rattle.pattern.specs.Tests.{pick, inputVerdict}
+use Rattle.basics.specs.Choice.{pick}
+use Rattle.pattern.specs.Tests.{inputVerdict}
 use Rattle.matching.specs.Answers.{listed, filled, Best}
-use Rattle.matching.specs.Collections.{Every, none, more}
+use Rattle.basics.specs.Collections.{Every}
+use Rattle.basics.specs.Laws.Collections.{every-map}
+use Rattle.basics.specs.Laws.Written.{length-flat}
 use Rattle.matching.specs.Lists.{leftmost, rightmost}
 use Rattle.matching.specs.Occurrence.{Occurs}
-use Rattle.matching.specs.Written.{flat, written}
+use Rattle.basics.specs.Written.{flat, written}
 use Rattle.matching.specs.declared.rows.Listed.{Listed}
 use Rattle.matching.specs.declared.rows.Listed.the-variants.{Rows, Refused as NotListed}
 use Rattle.counting.specs.Answers.{tallied}
 use Rattle.report.specs.Lines.{tableReport, listsReport, refusalReport}
 use Rattle.report.specs.Report.{afterLists, afterTally, searchReport}
-use Rattle.report.specs.Writing.{Fronted}
+use Rattle.report.specs.Steps.{Fronted}
 
 -- as many entries as rows times slots
-length-flat : (f : Pattern) (t : List ℕ) {R : List (List ℕ)} → Every (Occurs f t) R → length (flat R) ≡ length R * f .count
-unfolding flat
-length-flat f t none = omega arith
-length-flat f t (more {x = r} {xs = R} o h) = omega (arith, o .size, length-append r (flat R), length-flat f t h, suc-mul (length R) (f .count))
+entries : (f : Pattern) (t : List ℕ) {R : List (List ℕ)} → Every (Occurs f t) R → length (flat R) ≡ length R * f .count
+entries f t h = length-flat (f .count) (every-map (λ r o. o .size) h)
 
 -- they stand at the list's start
 entries-first : (m : ℕ) (R : List (List ℕ)) (l : List ℕ) (n : ℕ) → length (flat R) ≡ n → take n (written m R l) ≡ flat R
@@ -74,7 +75,7 @@ front-of : (f : Pattern) (t l : List ℕ) (rows : ℕ) {after : List ℕ} → le
 front-of f t l rows {after} size best answer e =
     let n = rows * f .count in
     let r = found (inputVerdict f (length t)) (f .count) (leftmost f t) l rows answer in
-    let s : length (flat (leftmost f t)) ≡ n = length-flat f t (best (r .accepted) .front .occur) ∙ ap (λ (k : ℕ). k * f .count) (sym (r .count)) in
+    let s : length (flat (leftmost f t)) ≡ n = entries f t (best (r .accepted) .front .occur) ∙ ap (λ (k : ℕ). k * f .count) (sym (r .count)) in
     record {
       accepted = r .accepted;
       count = r .count;
@@ -105,8 +106,8 @@ back-of {f} {t} {front} l {rows} {after} size best r e =
     let b = best (r .accepted) in
     let n = length front in
     let rowsOf : length (rightmost f t) * f .count ≡ rows * f .count = ap (λ (k : ℕ). k * f .count) (sym (r .count ∙ b .equal)) in
-    let s : length (flat (rightmost f t)) ≡ rows * f .count = length-flat f t (b .back .occur) ∙ rowsOf in
-    let many : n ≡ length (leftmost f t) * f .count = ap length (r .places) ∙ length-flat f t (b .front .occur) in
+    let s : length (flat (rightmost f t)) ≡ rows * f .count = entries f t (b .back .occur) ∙ rowsOf in
+    let many : n ≡ length (leftmost f t) * f .count = ap length (r .places) ∙ entries f t (b .front .occur) in
     let same : length (leftmost f t) * f .count ≡ rows * f .count = ap (λ (k : ℕ). k * f .count) (sym (r .count)) in
     let fits : ltb (length l) (length (rightmost f t) * f .count) ≡ false = le-ltb (length l) (length (rightmost f t) * f .count) (omega (arith, r .room)) in
     let h : holding f t (rightmost f t) l ≡ written (f .count) (rightmost f t) l = rw (r .accepted) (rw fits) in

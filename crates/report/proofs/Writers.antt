@@ -3,11 +3,12 @@ use Prim.Native.Nat.{ℕ, _+_}
 use native.Mathlib.Numerals.{add-one}
 use mathlib.Core.Path.{_≡_, refl, sym, ap}
 use mathlib.Core.List.{List, [], _∷_, _++_, append-assoc}
-use Rattle.format.specs.Shown.{digitsIn, closed, joined}
+use Rattle.basics.specs.Digits.{digitsIn}
+use Rattle.format.specs.Shown.{closed, joined}
 use Rattle.report.specs.Lines.{values, entryLine, entryLines}
-use Rattle.report.specs.Writing.{Writes}
+use Rattle.basics.specs.Writing.{Writes}
 use Rattle.report.specs.Laws.Lines.{closed-append}
-use Rattle.report.specs.Laws.Writing.{writes-none, writes-same, writes-then}
+use Rattle.basics.specs.Laws.Writing.{writes-none, writes-same, writes-then}
 
 -- ---- lines
 

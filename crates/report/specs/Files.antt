@@ -4,7 +4,7 @@ use mathlib.Core.List.{List, [], _∷_}
 use mathlib.Core.Bool.{_&&_}
 use lib.ListN.{take, drop}
 use lib.Dec.{eqb}
-use Rattle.pattern.specs.Tests.{pick}
+use Rattle.basics.specs.Choice.{pick}
 
 -- the index of the first line feed right after a line feed, or the length, of bytes that stand after the byte `before`
 unfoldable pub parting : List ℕ → ℕ → ℕ

@@ -2,5 +2,5 @@
 pub mod Files
 pub mod Lines
 pub mod Report
-pub mod Writing
+pub mod Steps
 pub mod Laws

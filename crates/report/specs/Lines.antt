@@ -4,8 +4,9 @@ use mathlib.Core.List.{List, [], _∷_, _++_, map}
 use lib.ListN.{length, getD}
 use Rattle.pattern.specs.Refusals.{numberOf, placeOf}
 use Rattle.pattern.specs.declared.refusal.Refusal.{Refusal}
-use Rattle.matching.specs.Written.{flat}
-use Rattle.format.specs.Shown.{digitsIn, closed, joined}
+use Rattle.basics.specs.Written.{flat}
+use Rattle.basics.specs.Digits.{digitsIn}
+use Rattle.format.specs.Shown.{closed, joined}
 
 -- ---- names
 

@@ -1,9 +1,10 @@
 -- What is printed for an input, by the tests in document 01's order: 12, those of the two files, 8, 9.
 use Prim.Native.Nat.{ℕ}
-use mathlib.Core.List.{List, _++_}
-use lib.ListN.{length, take, drop}
+use mathlib.Core.List.{List}
+use lib.ListN.{length}
 use lib.Dec.{ltb}
-use Rattle.pattern.specs.Tests.{pick, inputVerdict}
+use Rattle.basics.specs.Choice.{pick}
+use Rattle.pattern.specs.Tests.{inputVerdict}
 use Rattle.pattern.specs.declared.Pattern.{Pattern}
 use Rattle.pattern.specs.declared.refusal.Refusal.the-variants.{FileLength}
 use Rattle.matching.specs.Answers.{listed}
@@ -53,9 +54,3 @@ filesReport p t = afterText (inputRead p t 20000 .text) (inputRead p t 20000 .pa
 -- an input of at most 60,000 bytes
 unfoldable pub reported : List ℕ → List ℕ
 reported input = pick (ltb 60000 (length input)) (refusalReport FileLength) (filesReport (patternFile input) (textFile input))
-
--- ---- the caller's list at the end
-
--- as many of the bytes as fit over its start
-abbrev pub overlaid : List ℕ → List ℕ → List ℕ
-overlaid bytes out = take (length out) bytes ++ drop (length bytes) out

@@ -1,11 +1,11 @@
 // What the program prints for its input, as bytes.
-mod bytes;
 mod files;
 mod lines;
 
 use crate::files::parted;
 use crate::lines::put_lists;
 use crate::lines::put_refusal;
+use basics::smaller;
 use counting::Tallied;
 use counting::tally;
 use format::TextRead;
@@ -19,17 +19,9 @@ ghost use mathlib.Core.Path.{_≡_};
 ghost use Prim.Native.Nat.{min};
 ghost use lib.ListN.{length};
 ghost use Rattle.counting.specs.Answers.{tallied};
-ghost use Rattle.report.specs.Report.{afterTally, searchReport, filesReport, reported, overlaid};
-ghost use Rattle.report.specs.Writing.{Writes, Fronted};
-
-fn smaller(a: usize, b: usize) -> usize
-    ensures { λ r. ⌜ r ≡ min a b ⌝ }
-{
-    if a < b {
-        return a;
-    }
-    b
-}
+ghost use Rattle.basics.specs.Writing.{overlaid, Writes};
+ghost use Rattle.report.specs.Report.{afterTally, searchReport, filesReport, reported};
+ghost use Rattle.report.specs.Steps.{Fronted};
 
 // Reports the tally, with the front list of so many rows and the back list, which has as many.
 fn tally_report(pattern: Pattern, text: &[u16], rows: usize, front: &[u16], out: &mut [u8]) -> usize

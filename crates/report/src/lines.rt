@@ -1,5 +1,6 @@
-use crate::bytes::put_all;
-use crate::bytes::put_value;
+use basics::put_bytes;
+use basics::put_value;
+use basics::widen;
 use pattern::Refusal;
 ghost use mathlib.Core.Path.{_≡_};
 ghost use mathlib.Core.List.{[], _∷_};
@@ -7,13 +8,7 @@ ghost use Prim.Native.Nat.{_≤_};
 ghost use lib.ListN.{length};
 ghost use Rattle.format.specs.Shown.{closed};
 ghost use Rattle.report.specs.Lines.{values, entryLines, refusalReport, tableReport};
-ghost use Rattle.report.specs.Writing.{Writes};
-
-fn wide(x: u16) -> u64
-    ensures { λ r. ⌜ r ≡ x ⌝ }
-{
-    x as u64
-}
+ghost use Rattle.basics.specs.Writing.{Writes};
 
 // Writes a line of two values.
 fn put_pair(out: &mut [u8], at: usize, a: u64, b: u64) -> usize
@@ -45,8 +40,8 @@ fn put_table(out: &mut [u8], at: usize, m: usize, front: &[u16], back: &[u16]) -
             next,
             e / m + 1,
             e % m + 1,
-            wide(front[e]),
-            wide(back[e]),
+            widen(front[e]) as u64,
+            widen(back[e]) as u64,
         );
         e += 1;
     }
@@ -65,9 +60,9 @@ pub(crate) fn put_lists(
     requires { ⌜ (1 ≤ m) × (length (now front) ≡ length (now back)) ⌝ }
     ensures { λ r. ⌜ Writes (tableReport count tally m (now (front .entry)) (now (back .entry)) (length (now (front .entry)))) (now (out .entry)) 0 (now (out .exit)) r ⌝ }
 {
-    let first = put_all(out, 0, b"count tally\n");
+    let first = put_bytes(out, 0, b"count tally\n");
     let second = put_pair(out, first, count as u64, tally);
-    let third = put_all(out, second, b"row slot front back\n");
+    let third = put_bytes(out, second, b"row slot front back\n");
     put_table(out, third, m, front, back)
 }
 
@@ -75,6 +70,6 @@ pub(crate) fn put_lists(
 pub(crate) fn put_refusal(out: &mut [u8], why: Refusal) -> usize
     ensures { λ r. ⌜ Writes (refusalReport why) (now (out .entry)) 0 (now (out .exit)) r ⌝ }
 {
-    let next = put_all(out, 0, b"refused place\n");
+    let next = put_bytes(out, 0, b"refused place\n");
     put_pair(out, next, why.number() as u64, why.place() as u64)
 }

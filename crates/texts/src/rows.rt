@@ -6,6 +6,7 @@ use crate::cases::row;
 use crate::score::Score;
 use crate::score::refused;
 use crate::score::show;
+use basics::widen;
 use hits::Tested;
 use pattern::Pattern;
 use std::num::wrapping_add_u64;
@@ -17,11 +18,6 @@ fn tested_number(answer: Tested) -> u64 {
         Tested::No => 0,
         Tested::Refused(why) => refused(why),
     }
-}
-
-// A place as an index.
-fn wide(x: u16) -> usize {
-    x as usize
 }
 
 // The words from place a to place e, or nothing where the first of these is no place up to the last.
@@ -45,7 +41,7 @@ fn last(row: [u16; 4], m: usize) -> usize {
     if 4 < m {
         return 0;
     }
-    wide(row[m - 1])
+    widen(row[m - 1])
 }
 
 // Tests the row and compares its excerpt.
@@ -67,7 +63,7 @@ fn check_row(
 
 // An occurrence is one, and its excerpt goes from its first place to its last.
 fn check_hit(score: Score, row: [u16; 4], pattern: Pattern, text: &[u16]) -> Score {
-    let expected = part(text, wide(row[0]), last(row, pattern.count));
+    let expected = part(text, widen(row[0]), last(row, pattern.count));
     check_row(score, 1, expected, row, pattern, text)
 }
 

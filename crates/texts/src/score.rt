@@ -1,4 +1,5 @@
 // Checks, counted; what a failed one expected and got is written.
+use basics::widen;
 use libc::STDOUT_FILENO;
 use pattern::Refusal;
 use std::num::wrapping_add_u64;
@@ -24,13 +25,8 @@ pub fn show(name: &[u8], n: u64) {
 // Writes the entries of a list, each after a space.
 fn show_list(list: &[u16]) {
     for i in 0..list.len() {
-        show(b" ", wide(list[i]));
+        show(b" ", widen(list[i]) as u64);
     }
-}
-
-// An entry as a number to write.
-fn wide(x: u16) -> u64 {
-    x as u64
 }
 
 // Whether two lists have the same entries.

@@ -18,6 +18,7 @@ const RUNS: usize = 5;
 
 /// The CPU time that this process has used, in milliseconds.
 pub fn cpu_ms() -> f64 {
+    // SAFETY: C's `clock` takes nothing, and may be called at any time.
     unsafe { clock() as f64 / TICKS * 1000.0 }
 }
 

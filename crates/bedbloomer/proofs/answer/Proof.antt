@@ -3,7 +3,7 @@ use mathlib.Core.Path.{sym}
 use lib.Seq.{length-take-le}
 use borrow.Author.Needs.{needs}
 use Rattle.report.specs.Report.{reported}
-use Rattle.report.specs.Laws.Writing.{writes-within}
+use Rattle.basics.specs.Laws.Writing.{writes-within}
 use Rattle.report.specs.Laws.Size.{report-whole}
 use Rattle.bedbloomer.proofs.answer.Statement.{statement}
 use Rattle.bedbloomer.proofs.answer.Tie as tie

@@ -6,8 +6,10 @@ use lib.Dec.{lit<, lit≤}
 use Rattle.pattern.specs.declared.Pattern.{Pattern}
 use Rattle.pattern.specs.Patterns.{slotAt}
 use Rattle.matching.specs.Occurrence.{View}
-use Rattle.matching.specs.Laws.Sums.{total, total-bound}
-use Rattle.matching.specs.Laws.Branches.{ways, when-bound}
+use Rattle.basics.specs.Sums.{total}
+use Rattle.basics.specs.Laws.Sums.{total-bound}
+use Rattle.basics.specs.Laws.Choice.{when-bound}
+use Rattle.matching.specs.Laws.Branches.{ways}
 use Rattle.matching.specs.Laws.Cover.{distance, limit, least, tally-each}
 use Rattle.counting.specs.Laws.Inputs.{gaps}
 use Rattle.counting.specs.Inputs.{Input}

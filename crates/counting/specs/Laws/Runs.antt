@@ -6,10 +6,10 @@ use mathlib.Core.Path.{_≡_, refl, sym, ap, _∙_}
 use mathlib.Core.List.{List, [], _∷_, _++_, append-nil, append-assoc}
 use lib.ListN.{length, take, drop, length-append, take-append-drop}
 use lib.Seq.{paste, take-all, take-paste, drop-paste, length-paste, drop-drop}
-use Rattle.matching.specs.Collections.{Every, none, more}
-use Rattle.matching.specs.Laws.Sums.{gather}
+use Rattle.basics.specs.Collections.{Every, none, more}
+use Rattle.basics.specs.Sums.{gather}
 use Rattle.matching.specs.Occurrences.{places}
-use Rattle.matching.specs.Written.{flat, written}
+use Rattle.basics.specs.Written.{flat, written}
 use Rattle.counting.specs.Steps.Walks.{run, put}
 
 -- ---- runs

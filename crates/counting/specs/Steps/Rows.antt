@@ -9,8 +9,9 @@ use lib.Dec.{leb}
 use Rattle.pattern.specs.declared.Pattern.{Pattern}
 use Rattle.matching.specs.Occurrence.{View}
 use Rattle.matching.specs.Occurrences.{startingIn}
-use Rattle.matching.specs.Laws.Sums.{rest}
-use Rattle.matching.specs.Laws.Branches.{when, ways}
+use Rattle.basics.specs.Sums.{rest}
+use Rattle.basics.specs.Choice.{when}
+use Rattle.matching.specs.Laws.Branches.{ways}
 use Rattle.matching.specs.Laws.Cover.{far}
 use Rattle.counting.specs.declared.window.Window.{Window}
 use Rattle.counting.specs.Numbers.{val}

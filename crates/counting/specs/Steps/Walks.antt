@@ -4,7 +4,7 @@ use mathlib.Core.List.{List, [], _∷_, _++_, map}
 use mathlib.Core.Path.{_≡_}
 use lib.ListN.{length, getD, take}
 use lib.Seq.{paste}
-use Rattle.matching.specs.Laws.Sums.{gather}
+use Rattle.basics.specs.Sums.{gather}
 use Rattle.matching.specs.Occurrences.{places}
 use Rattle.counting.specs.Steps.Tables.{Next}
 

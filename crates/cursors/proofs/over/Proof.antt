@@ -20,7 +20,7 @@ returns c =
     let start = c .before .before .before .before .before in
     let a = start .args in
     let room = length-unmapped ℕ (a .marks .places) 16 (start .good .0 .1 .1 .0 .1 .0 .1) in
-    overlaid (a .m) (a .t2) (a .marks) (start .pre) (start .good .1 .0 .1 .0 .1) room (c .before .put-row .ensures)
+    overlaid (a .m) (a .t2) (a .marks) (start .pre) (start .good .1 .0 .1 .0 .1) room (c .before .put-row .ensures .1)
 
 pub over-spec : {M : Type 1} → statement M
 over-spec = tie.close (tie.spec slice-aggregate-put-row slice-aggregate-put-row-2 put-row-requires returns)

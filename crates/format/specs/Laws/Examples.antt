@@ -14,7 +14,8 @@ use Rattle.format.specs.Names.{column, highName, leastName, lowName, mos
 use Rattle.format.specs.Texts.{textAnswer, textContents, textRead, textWritten, words}
 use Rattle.format.specs.Patterns.{patternContents, patternOf, patternRead, refusedPattern, shownPattern, slotValues}
 use Rattle.format.specs.Input.{inputRead, refusedInput}
-use Rattle.format.specs.Shown.{closed, digits, digitsIn, joined}
+use Rattle.basics.specs.Digits.{digitsIn}
+use Rattle.format.specs.Shown.{closed, digits, joined}
 use Rattle.format.specs.declared.texts.TextRead.the-variants.{Words}
 use Rattle.format.specs.declared.texts.TextRead.the-variants.{Refused as NoText}
 

@@ -7,7 +7,8 @@ use lib.Dec.{ltb}
 use lib.ListN.{length, take}
 use lib.Seq.{take-at}
 use Rattle.pattern.specs.Laws.Accepting.{input-accepted}
-use Rattle.pattern.specs.Tests.{inputVerdict, pick}
+use Rattle.basics.specs.Choice.{pick}
+use Rattle.pattern.specs.Tests.{inputVerdict}
 use Rattle.pattern.specs.declared.refusal.Refusal.the-variants.{FileLength}
 use Rattle.pattern.specs.declared.refusal.Verdict.{Verdict}
 use Rattle.pattern.specs.declared.refusal.Verdict.the-variants.{Accepted, Refused}

@@ -7,10 +7,11 @@ use mathlib.Core.Path.{_≡_, refl, sym, _∙_, ap, subst}
 use lib.Dec.{eqb, ltb}
 use lib.ListN.{length}
 use borrow.Author.Tests.{eqb-false, eqb-true, ne-eqb}
-use Rattle.pattern.specs.Tests.{pick}
+use Rattle.basics.specs.Choice.{pick}
 use Rattle.format.specs.Bytes.{ended, lines, onFirst}
 use Rattle.format.specs.Layouts.{scan}
-use Rattle.format.specs.Shown.{closed, digits, digitsIn}
+use Rattle.basics.specs.Digits.{digitsIn}
+use Rattle.format.specs.Shown.{closed, digits}
 use Rattle.format.specs.declared.layout.Layout.the-variants.{Right, Wrong}
 
 -- no byte is `sep`

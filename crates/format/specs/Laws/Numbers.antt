@@ -7,9 +7,11 @@ use mathlib.Core.Path.{_≡_, refl, sym, _∙_, ap}
 use lib.Dec.{eqb, ltb}
 use lib.ListN.{length}
 use borrow.Author.Tests.{eqb-false, eqb-true, le-ltb, lt-ltb, ltb-false, ltb-true, ne-eqb}
-use Rattle.pattern.specs.Tests.{pick}
+use Rattle.basics.specs.Choice.{pick}
 use Rattle.format.specs.Bytes.{decimal, more}
-use Rattle.format.specs.Shown.{digits, digitsIn}
+use Rattle.basics.specs.Digits.{digitsIn, ten}
+use Rattle.basics.specs.Laws.Digits.{digits-room}
+use Rattle.format.specs.Shown.{digits}
 
 -- one digit after a number
 more-snoc : (s : List ℕ) (v w b : ℕ) → more s v ≡ w → w ≤ 65535 → 48 ≤ b → b ≤ 57 → w * 10 + (b - 48) ≤ 65535 → more (s ++ (b ∷ [])) v ≡ w * 10 + (b - 48)
@@ -24,11 +26,6 @@ more-snoc (x ∷ s) v w b e h l g m = go (ltb x 48) (ltb 57 x) (ltb 65535 (v * 1
     go false true r k i = absurd (omega arith)
     go false false true k i = absurd (omega arith)
     go false false false k i = i k h l g m
-
--- a bound on a number of f + 1 digits
-abbrev ten : ℕ → ℕ
-ten zero = 10
-ten (suc f) = 10 * ten f
 
 one-digit : (n : ℕ) → n < 10 → more ((48 + n) ∷ []) 0 ≡ n
 unfolding more
@@ -75,12 +72,6 @@ pub decimal-digits : (n : ℕ) → n ≤ 65535 → decimal (digits n) ≡ n
 unfolding digits decimal digitsIn
 decimal-digits zero h = refl
 decimal-digits (suc n) h = lead-decimal (lead-digits 4 (suc n) (omega arith) (omega arith)) ∙ more-digits 4 (suc n) (omega arith) h
-
--- more room changes no digit
-digits-room : (f n : ℕ) → n < ten f → digitsIn f n ≡ digitsIn (suc f) n
-unfolding digitsIn
-digits-room zero n h = rw (lt-ltb n 10 h)
-digits-room (suc f) n h = ap (λ (l : List ℕ). pick (ltb n 10) ((48 + n) ∷ []) (l ++ ((48 + n % 10) ∷ []))) (digits-room f (n / 10) (omega arith))
 
 digits-snoc : (v b : ℕ) → 0 < v → 48 ≤ b → b ≤ 57 → v * 10 + (b - 48) ≤ 65535 → digits (v * 10 + (b - 48)) ≡ digits v ++ (b ∷ [])
 unfolding digits digitsIn

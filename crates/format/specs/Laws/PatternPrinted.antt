@@ -7,7 +7,7 @@ use mathlib.Core.Path.{_≡_, refl, sym, _∙_, ap}
 use lib.Dec.{eqb}
 use lib.ListN.{length, getD}
 use borrow.Author.Tests.{eq-eqb, eqb-false}
-use Rattle.pattern.specs.Tests.{pick}
+use Rattle.basics.specs.Choice.{pick}
 use Rattle.format.specs.Bytes.{field, fields, parts, same, value}
 use Rattle.format.specs.Names.{column, columnsOf, highName, leastName, lowName, mostName, slotNames, spanNames, wordsName}
 use Rattle.format.specs.Patterns.{SlotLine, fromNames, patternContents, readSlot, shown, slotValues, spanValues}

@@ -8,7 +8,7 @@ use mathlib.Core.Path.{_≡_, refl, sym, _∙_, ap, subst}
 use lib.Dec.{eqb, ltb}
 use lib.ListN.{length, getD}
 use borrow.Author.Tests.{eqb-true, ltb-true}
-use Rattle.pattern.specs.Tests.{pick}
+use Rattle.basics.specs.Choice.{pick}
 use Rattle.pattern.specs.declared.refusal.Refusal.{Refusal}
 use Rattle.pattern.specs.declared.refusal.Refusal.the-variants.{Names, Values}
 use Rattle.format.specs.Bytes.{ended, field, fields, isNumber, lines, parts, value}

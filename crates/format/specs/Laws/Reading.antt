@@ -9,7 +9,8 @@ use lib.Dec.{ltb}
 use lib.ListN.{length}
 use borrow.Author.Tests.{le-ltb, ltb-false}
 use Rattle.pattern.specs.Laws.Accepting.{pattern-accepted}
-use Rattle.pattern.specs.Tests.{patternVerdict, pick}
+use Rattle.basics.specs.Choice.{pick}
+use Rattle.pattern.specs.Tests.{patternVerdict}
 use Rattle.pattern.specs.declared.Pattern.{Pattern}
 use Rattle.pattern.specs.declared.refusal.Refusal.{Refusal}
 use Rattle.pattern.specs.declared.refusal.Refusal.the-variants.{TextLength, FileLength, WordListLength}

@@ -6,7 +6,7 @@ use mathlib.Core.List.{List, [], _∷_, map}
 use mathlib.Core.Logic.{_↔_}
 use mathlib.Core.Path.{_≡_, refl, sym, _∙_, ap, subst}
 use borrow.Author.Tests.{le-leb, leb-true}
-use Rattle.pattern.specs.Tests.{pick}
+use Rattle.basics.specs.Choice.{pick}
 use Rattle.pattern.specs.declared.refusal.Refusal.{Refusal}
 use Rattle.pattern.specs.declared.refusal.Refusal.the-variants.{Names}
 use Rattle.format.specs.Bytes.{decimal, ended, isNumber, lines, same}

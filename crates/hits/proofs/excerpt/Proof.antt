@@ -20,10 +20,10 @@ tested-at c = c .before .before
 abbrev start : tie.After-enum-told → tie.Start
 start c = tested-at c .before .before .before
 
-abbrev yes-at : tie.After-wide → tie.After-enum-told
+abbrev yes-at : tie.After-widen → tie.After-enum-told
 yes-at c = c .before .before .before
 
-abbrev first-at : tie.After-wide2 → tie.After-wide
+abbrev first-at : tie.After-widen2 → tie.After-widen
 first-at c = c .before .before
 
 -- ---- the row is an occurrence of the pattern in the text
@@ -44,14 +44,14 @@ found : (c : tie.After-enum-told) → Hit (f c) (t c) (r c)
 found c = hit (f c) (t c) (r c) (answer-is c)
 
 -- its first place and its last are places of the text, in order
-low : (c : tie.After-wide) → 1 ≤ c .wide .result
-low c = omega (arith, c .wide .ensures .0, hit-first (found (yes-at c)))
+low : (c : tie.After-widen) → 1 ≤ c .widen .result
+low c = omega (arith, c .widen .ensures .0, hit-first (found (yes-at c)))
 
-ordered : (c : tie.After-wide2) → first-at c .wide .result ≤ c .wide2 .result
-ordered c = omega (arith, first-at c .wide .ensures .0, c .wide2 .ensures .0, hit-order (found (yes-at (first-at c))))
+ordered : (c : tie.After-widen2) → first-at c .widen .result ≤ c .widen2 .result
+ordered c = omega (arith, first-at c .widen .ensures .0, c .widen2 .ensures .0, hit-order (found (yes-at (first-at c))))
 
-high : (c : tie.After-wide2) → c .wide2 .result ≤ length (t (yes-at (first-at c)))
-high c = omega (arith, c .wide2 .ensures .0, hit-last (found (yes-at (first-at c))))
+high : (c : tie.After-widen2) → c .widen2 .result ≤ length (t (yes-at (first-at c)))
+high c = omega (arith, c .widen2 .ensures .0, hit-last (found (yes-at (first-at c))))
 
 -- ----
 
@@ -96,26 +96,26 @@ returns-2 c = simp (sym (c .before .before .before .is-occurrence .ensures) ∙ 
 sub-last : tie.Need-sub-last
 sub-last c = omega (arith, found (c .before) .accepted .ready .some)
 
-shared-slice-read-wide : tie.Need-shared-slice-read-wide
-shared-slice-read-wide c = let a = found (c .before .before) .accepted in omega (arith, a .ready .some, a .size)
+shared-slice-read-widen : tie.Need-shared-slice-read-widen
+shared-slice-read-widen c = let a = found (c .before .before) .accepted in omega (arith, a .ready .some, a .size)
 
-wide-requires : tie.Need-wide-requires
-wide-requires c κs = search needs
+widen-requires : tie.Need-widen-requires
+widen-requires c κs = search needs
 
 sub-a : tie.Need-sub-a
 sub-a c = omega (arith, low c)
 
-mul-wide : tie.Need-mul-wide
-mul-wide c = omega (arith, found (yes-at c) .accepted .ready .few)
+mul-widen : tie.Need-mul-widen
+mul-widen c = omega (arith, found (yes-at c) .accepted .ready .few)
 
-shared-slice-read-wide-2 : tie.Need-shared-slice-read-wide-2
-shared-slice-read-wide-2 c = let a = found (yes-at (c .before)) .accepted in omega (arith, a .ready .some, a .size)
+shared-slice-read-widen-2 : tie.Need-shared-slice-read-widen-2
+shared-slice-read-widen-2 c = let a = found (yes-at (c .before)) .accepted in omega (arith, a .ready .some, a .size)
 
-wide-requires-2 : tie.Need-wide-requires-2
-wide-requires-2 c κs = search needs
+widen-requires-2 : tie.Need-widen-requires-2
+widen-requires-2 c κs = search needs
 
 mul-result : tie.Need-mul-result
-mul-result c = omega (arith, first-at c .wide .ensures, low (first-at c))
+mul-result c = omega (arith, first-at c .widen .ensures, low (first-at c))
 
 sub-result-3 : tie.Need-sub-result-3
 sub-result-3 c = omega (arith, low (first-at c), ordered c)
@@ -130,7 +130,7 @@ returns-3 : tie.Need-returns-3
 unfolding excerptOf excerptStart
 returns-3 c =
     let d = first-at (c .before) in
-    simp (answer-is (yes-at d), d .wide .ensures .0, c .before .wide2 .ensures .0) (refl, refl)
+    simp (answer-is (yes-at d), d .widen .ensures .0, c .before .widen2 .ensures .0) (refl, refl)
 
 pub excerpt-spec : {M : Type 1} → statement M
 excerpt-spec =
@@ -149,12 +149,12 @@ excerpt-spec =
     part-result-end-2
     returns-2
     sub-last
-    shared-slice-read-wide
-    wide-requires
+    shared-slice-read-widen
+    widen-requires
     sub-a
-    mul-wide
-    shared-slice-read-wide-2
-    wide-requires-2
+    mul-widen
+    shared-slice-read-widen-2
+    widen-requires-2
     mul-result
     sub-result-3
     part-result-start-3

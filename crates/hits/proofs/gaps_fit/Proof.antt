@@ -22,13 +22,13 @@ abbrev μ-loop : tie.MeasureT-loop
 abbrev start : tie.At-loop Inv-loop μ-loop → tie.Start Inv-loop μ-loop
 start c = c .before .before
 
-abbrev low-at : tie.After-gap-fits Inv-loop μ-loop → tie.After-wide3 Inv-loop μ-loop
+abbrev low-at : tie.After-gap-fits Inv-loop μ-loop → tie.After-widen3 Inv-loop μ-loop
 low-at c = c .before .before
 
-abbrev own-at : tie.After-gap-fits Inv-loop μ-loop → tie.After-wide2 Inv-loop μ-loop
+abbrev own-at : tie.After-gap-fits Inv-loop μ-loop → tie.After-widen2 Inv-loop μ-loop
 own-at c = low-at c .before
 
-abbrev prior-at : tie.After-gap-fits Inv-loop μ-loop → tie.After-wide Inv-loop μ-loop
+abbrev prior-at : tie.After-gap-fits Inv-loop μ-loop → tie.After-widen Inv-loop μ-loop
 prior-at c = own-at c .before .before
 
 abbrev test-at : tie.After-gap-fits Inv-loop μ-loop → tie.In-loop Inv-loop μ-loop
@@ -42,7 +42,7 @@ abbrev Gap : tie.At-loop Inv-loop μ-loop → ℕ → Type 0
 Gap c k = GapFits (at (start c .args .row .now) (k - 1)) (at (start c .args .row .now) k) (slotAt (start c .args .t1) k .low) (slotAt (start c .args .t1) k .high)
 
 decided : (c : tie.After-gap-fits Inv-loop μ-loop) → Decides (c .gap-fits .result) (Gap (loop-at c) (loop-at c .loop .j))
-decided c = gap-same (prior-at c .wide .ensures .0) (own-at c .wide2 .ensures .0) (low-at c .wide3 .ensures .0) (c .before .wide4 .ensures .0) (c .gap-fits .ensures)
+decided c = gap-same (prior-at c .widen .ensures .0) (own-at c .widen2 .ensures .0) (low-at c .widen3 .ensures .0) (c .before .widen4 .ensures .0) (c .gap-fits .ensures)
 
 -- ----
 
@@ -58,29 +58,29 @@ element-copy-out-s c = search needs
 sub-i : tie.Need-sub-i Inv-loop μ-loop
 sub-i c = search needs
 
-mul-wide : tie.Need-mul-wide Inv-loop μ-loop
-mul-wide c = search needs
+mul-widen : tie.Need-mul-widen Inv-loop μ-loop
+mul-widen c = search needs
 
-shared-slice-read-wide : tie.Need-shared-slice-read-wide Inv-loop μ-loop
-shared-slice-read-wide c = search needs
+shared-slice-read-widen : tie.Need-shared-slice-read-widen Inv-loop μ-loop
+shared-slice-read-widen c = search needs
 
-wide-requires : tie.Need-wide-requires Inv-loop μ-loop
-wide-requires c κs = search needs
+widen-requires : tie.Need-widen-requires Inv-loop μ-loop
+widen-requires c κs = search needs
 
-mul-wide-2 : tie.Need-mul-wide-2 Inv-loop μ-loop
-mul-wide-2 c = search needs
+mul-widen-2 : tie.Need-mul-widen-2 Inv-loop μ-loop
+mul-widen-2 c = search needs
 
-shared-slice-read-wide-2 : tie.Need-shared-slice-read-wide-2 Inv-loop μ-loop
-shared-slice-read-wide-2 c = search needs
+shared-slice-read-widen-2 : tie.Need-shared-slice-read-widen-2 Inv-loop μ-loop
+shared-slice-read-widen-2 c = search needs
 
-wide-requires-2 : tie.Need-wide-requires-2 Inv-loop μ-loop
-wide-requires-2 c κs = search needs
+widen-requires-2 : tie.Need-widen-requires-2 Inv-loop μ-loop
+widen-requires-2 c κs = search needs
 
-wide-requires-3 : tie.Need-wide-requires-3 Inv-loop μ-loop
-wide-requires-3 c κs = search needs
+widen-requires-3 : tie.Need-widen-requires-3 Inv-loop μ-loop
+widen-requires-3 c κs = search needs
 
-wide-requires-4 : tie.Need-wide-requires-4 Inv-loop μ-loop
-wide-requires-4 c κs = search needs
+widen-requires-4 : tie.Need-widen-requires-4 Inv-loop μ-loop
+widen-requires-4 c κs = search needs
 
 gap-fits-requires : tie.Need-gap-fits-requires Inv-loop μ-loop
 gap-fits-requires c κs = search needs
@@ -114,14 +114,14 @@ gaps-fit-spec =
     mul-s
     element-copy-out-s
     sub-i
-    mul-wide
-    shared-slice-read-wide
-    wide-requires
-    mul-wide-2
-    shared-slice-read-wide-2
-    wide-requires-2
-    wide-requires-3
-    wide-requires-4
+    mul-widen
+    shared-slice-read-widen
+    widen-requires
+    mul-widen-2
+    shared-slice-read-widen-2
+    widen-requires-2
+    widen-requires-3
+    widen-requires-4
     gap-fits-requires
     returns
     add-j

@@ -35,16 +35,16 @@ gaps-at c = c .before
 abbrev words-fit-at : tie.Else2 → tie.Else1
 words-fit-at c = gaps-at c .before
 
-abbrev gaps-fit-at : tie.After-wide → tie.Else2
+abbrev gaps-fit-at : tie.After-widen → tie.Else2
 gaps-fit-at c = c .before .before .before
 
-abbrev least-at : tie.After-span-fits → tie.After-wide3
+abbrev least-at : tie.After-span-fits → tie.After-widen3
 least-at c = c .before .before
 
-abbrev last-at : tie.After-span-fits → tie.After-wide2
+abbrev last-at : tie.After-span-fits → tie.After-widen2
 last-at c = least-at c .before
 
-abbrev first-at : tie.After-span-fits → tie.After-wide
+abbrev first-at : tie.After-span-fits → tie.After-widen
 first-at c = last-at c .before .before
 
 abbrev passed-at : tie.Else2 → tie.After-enum-told
@@ -75,7 +75,7 @@ abbrev Span : tie.After-enum-told → Type 0
 Span c = SpanFits (at (r c) 0) (at (r c) (f c .count - 1)) (f c .least) (f c .most)
 
 span : (c : tie.After-span-fits) → Decides (c .span-fits .result) (Span (tested-at c))
-span c = span-same (first-at c .wide .ensures .0) (last-at c .wide2 .ensures .0) (least-at c .wide3 .ensures .0) (c .before .wide4 .ensures .0) (c .span-fits .ensures)
+span c = span-same (first-at c .widen .ensures .0) (last-at c .widen2 .ensures .0) (least-at c .widen3 .ensures .0) (c .before .widen4 .ensures .0) (c .span-fits .ensures)
 
 -- ----
 
@@ -110,26 +110,26 @@ returns-3 c =
 sub-last : tie.Need-sub-last
 sub-last c = omega (arith, accepted (passed-at (c .before)) .ready .some)
 
-shared-slice-read-wide : tie.Need-shared-slice-read-wide
-shared-slice-read-wide c = let a = accepted (passed-at (c .before .before)) in omega (arith, a .ready .some, a .size)
+shared-slice-read-widen : tie.Need-shared-slice-read-widen
+shared-slice-read-widen c = let a = accepted (passed-at (c .before .before)) in omega (arith, a .ready .some, a .size)
 
-wide-requires : tie.Need-wide-requires
-wide-requires c κs = search needs
+widen-requires : tie.Need-widen-requires
+widen-requires c κs = search needs
 
-mul-wide : tie.Need-mul-wide
-mul-wide c = omega (arith, accepted (passed-at (gaps-fit-at c)) .ready .few)
+mul-widen : tie.Need-mul-widen
+mul-widen c = omega (arith, accepted (passed-at (gaps-fit-at c)) .ready .few)
 
-shared-slice-read-wide-2 : tie.Need-shared-slice-read-wide-2
-shared-slice-read-wide-2 c = let a = accepted (passed-at (gaps-fit-at (c .before))) in omega (arith, a .ready .some, a .size)
+shared-slice-read-widen-2 : tie.Need-shared-slice-read-widen-2
+shared-slice-read-widen-2 c = let a = accepted (passed-at (gaps-fit-at (c .before))) in omega (arith, a .ready .some, a .size)
 
-wide-requires-2 : tie.Need-wide-requires-2
-wide-requires-2 c κs = search needs
+widen-requires-2 : tie.Need-widen-requires-2
+widen-requires-2 c κs = search needs
 
-wide-requires-3 : tie.Need-wide-requires-3
-wide-requires-3 c κs = search needs
+widen-requires-3 : tie.Need-widen-requires-3
+widen-requires-3 c κs = search needs
 
-wide-requires-4 : tie.Need-wide-requires-4
-wide-requires-4 c κs = search needs
+widen-requires-4 : tie.Need-widen-requires-4
+widen-requires-4 c κs = search needs
 
 span-fits-requires : tie.Need-span-fits-requires
 span-fits-requires c κs = search needs
@@ -161,13 +161,13 @@ is-occurrence-spec =
     gaps-fit-requires
     returns-3
     sub-last
-    shared-slice-read-wide
-    wide-requires
-    mul-wide
-    shared-slice-read-wide-2
-    wide-requires-2
-    wide-requires-3
-    wide-requires-4
+    shared-slice-read-widen
+    widen-requires
+    mul-widen
+    shared-slice-read-widen-2
+    widen-requires-2
+    widen-requires-3
+    widen-requires-4
     span-fits-requires
     returns-4
     returns-5)

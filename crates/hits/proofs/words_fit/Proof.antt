@@ -33,7 +33,7 @@ abbrev Place : tie.At-loop Inv-loop μ-loop → ℕ → Type 0
 Place c k = PlaceFits (slotAt (start c .args .t1) k) (start c .args .text .now) (at (start c .args .row .now) k)
 
 decided : (c : tie.After-place-fits Inv-loop μ-loop) → Decides (c .place-fits .result) (Place (loop-at c) (loop-at c .loop .j))
-decided c = place-same (c .before .wide .ensures .0) (c .place-fits .ensures)
+decided c = place-same (c .before .widen .ensures .0) (c .place-fits .ensures)
 
 -- ----
 
@@ -46,14 +46,14 @@ mul-s c = search needs
 element-copy-out-s : tie.Need-element-copy-out-s Inv-loop μ-loop
 element-copy-out-s c = search needs
 
-mul-wide : tie.Need-mul-wide Inv-loop μ-loop
-mul-wide c = search needs
+mul-widen : tie.Need-mul-widen Inv-loop μ-loop
+mul-widen c = search needs
 
-shared-slice-read-wide : tie.Need-shared-slice-read-wide Inv-loop μ-loop
-shared-slice-read-wide c = search needs
+shared-slice-read-widen : tie.Need-shared-slice-read-widen Inv-loop μ-loop
+shared-slice-read-widen c = search needs
 
-wide-requires : tie.Need-wide-requires Inv-loop μ-loop
-wide-requires c κs = search needs
+widen-requires : tie.Need-widen-requires Inv-loop μ-loop
+widen-requires c κs = search needs
 
 place-fits-requires : tie.Need-place-fits-requires Inv-loop μ-loop
 place-fits-requires c κs = search needs
@@ -86,9 +86,9 @@ words-fit-spec =
     loop-holds
     mul-s
     element-copy-out-s
-    mul-wide
-    shared-slice-read-wide
-    wide-requires
+    mul-widen
+    shared-slice-read-widen
+    widen-requires
     place-fits-requires
     returns
     add-j

@@ -4,28 +4,20 @@ use native.Mathlib.Omega.{arith}
 use mathlib.Core.Path.{_≡_, refl, sym, ap, _∙_}
 use mathlib.Core.Bool.{Bool, true, false, _&&_, and-eq-true-iff}
 use mathlib.Core.List.{List, [], _∷_, map, List·Memᴰ, List·Memᴰ·head, Memᴰ·map}
-use lib.ListN.{length, length-map}
+use lib.ListN.{length, length-append, length-map}
 use lib.Dec.{leb, ltb, eqb}
 use borrow.Author.Tests.{leb-true, le-leb, eqb-true, eq-eqb}
+use Rattle.basics.specs.Choice.{only, when}
+use Rattle.basics.specs.Collections.{Every, Pairwise, none, more}
+use Rattle.basics.specs.Sums.{total, gather}
+use Rattle.basics.specs.Laws.Collections.{every-of, every-map, every-mem, every-both, pairwise-append, select-every, select-keeps, select-pairwise, select-mem, map-every, map-pairwise}
+use Rattle.basics.specs.Laws.Sums.{total-same, gather-mem, gather-every}
 use Rattle.pattern.specs.declared.Pattern.{Pattern}
-use Rattle.matching.specs.Occurrence.{View, OccursIn, at}
 use Rattle.pattern.specs.Patterns.{slotAt}
-use Rattle.matching.specs.Collections.{Every, Pairwise, none, more}
-use Rattle.matching.specs.Laws.Collections.{every-of, every-map, every-mem, every-both, pairwise-append, select-every, select-keeps, select-pairwise, select-mem, map-every, map-pairwise}
+use Rattle.matching.specs.Occurrence.{View, OccursIn, at}
 use Rattle.matching.specs.Occurrences.{Lex, here, after, places, occurrencesIn, startingIn}
 use Rattle.matching.specs.Laws.Enumeration.{places-mem, places-rise, occurrences-occur, occurrences-iff, occurrences-lex}
-use Rattle.matching.specs.Laws.Sums.{total, total-same, gather, gather-mem, gather-every, length-gather}
 use Rattle.matching.specs.Laws.Ordering.{lex-unique}
-
--- a list where the test holds, and none where not
-unfoldable pub only : {A : Type 0} → Bool → List A → List A
-only true xs = xs
-only false xs = []
-
--- a number where the test holds, and 0 where not
-unfoldable pub when : Bool → ℕ → ℕ
-when true n = n
-when false n = 0
 
 only-every : {A : Type 0} {P : A → Type 0} (b : Bool) {xs : List A} → (b ≡ true → Every P xs) → Every P (only b xs)
 unfolding only
@@ -46,11 +38,6 @@ unfolding only when
 length-only true xs = refl
 length-only false xs = refl
 
-pub when-bound : (b : Bool) {n m : ℕ} → n ≤ m → when b n ≤ m
-unfolding when
-when-bound true h = h
-when-bound false h = omega arith
-
 pub data Starts (p : ℕ) : List ℕ → Type 0 where
   starts : {r : List ℕ} → Starts p (p ∷ r)
 
@@ -67,6 +54,11 @@ module _ (g : ℕ → List (List ℕ)) (start : (p : ℕ) → Every (Starts p) (
   gather-lex (more {x = p} e h) =
       pairwise-append (rise p) (gather-lex h)
       (every-map (λ r a. gather-every g (λ q l. every-map (λ s b. starts-lex l a b) (start q)) e) (start p))
+
+length-gather : {A : Type 0} (g : ℕ → List A) (v : ℕ → ℕ) (n p : ℕ) → ((q : ℕ) → length (g q) ≡ v q) → length (gather g (places p n)) ≡ total n v p
+unfolding gather total places
+length-gather g v zero p h = refl
+length-gather g v (suc n) p h = omega (arith, length-append (g p) (gather g (places (suc p) n)), h p, length-gather g v n (suc p) h)
 
 places-between : (p n : ℕ) → Every (λ q. (p ≤ q) × (q < p + n)) (places p n)
 unfolding places

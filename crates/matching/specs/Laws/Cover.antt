@@ -11,7 +11,7 @@ use Rattle.pattern.specs.declared.Pattern.{Pattern}
 use Rattle.matching.specs.Occurrence.{View, OccursIn, at}
 use Rattle.pattern.specs.Patterns.{slotAt}
 use Rattle.matching.specs.Laws.Branches.{stands, Part, part-size, part-stands, part-gap, part-last, part-of, Covers, tree, forest, occurrences-forest, ways, count-forest, starting-tree, count-starting, count-places}
-use Rattle.matching.specs.Laws.Sums.{total}
+use Rattle.basics.specs.Sums.{total}
 use Rattle.matching.specs.Occurrences.{occurrencesIn, startingIn}
 
 -- the distance from the first place to that at slot k, where the gap before each slot j has `gap j` words

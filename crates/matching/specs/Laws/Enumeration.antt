@@ -8,9 +8,9 @@ use mathlib.Core.List.{List, [], _∷_, map, List·Memᴰ, List·Memᴰ·head, L
 use lib.ListN.{length}
 use Rattle.pattern.specs.declared.Pattern.{Pattern}
 use Rattle.matching.specs.Occurrence.{View, OccursIn, at}
-use Rattle.matching.specs.Collections.{Every, Pairwise, none, more}
+use Rattle.basics.specs.Collections.{Every, Pairwise, none, more}
 use Rattle.matching.specs.Occurrences.{occursIn, places, extend, rows, Lex, here, after, occurrencesIn}
-use Rattle.matching.specs.Laws.Collections.{every-of, every-map, every-mem, every-append, pairwise-append, map-every, map-pairwise, select-every, select-pairwise, select-mem}
+use Rattle.basics.specs.Laws.Collections.{every-of, every-map, every-mem, every-append, pairwise-append, map-every, map-pairwise, select-every, select-pairwise, select-mem}
 use Rattle.matching.specs.Laws.Tests.{occurs-iff}
 
 pub places-mem : (p n q : ℕ) → p ≤ q → q < p + n → List·Memᴰ q (places p n)

@@ -9,7 +9,7 @@ use mathlib.Core.List.{List, reverse}
 use lib.Dec.{ltb}
 use Rattle.pattern.specs.declared.Pattern.{Pattern}
 use Rattle.matching.specs.Occurrence.{View, plain, OccursIn, at}
-use Rattle.matching.specs.Collections.{select}
+use Rattle.basics.specs.Collections.{select}
 use Rattle.matching.specs.Occurrences.{occurrencesIn}
 use Rattle.matching.specs.Rows.{level, Before, NotAfter, before, meet, join}
 use Rattle.matching.specs.Searches.{extreme, earliestOf, latestOf, earliestIn, latestIn}

@@ -4,8 +4,8 @@ use native.Mathlib.Omega.{arith}
 use mathlib.Core.Path.{_≡_, refl, ap, subst, _∙_}
 use mathlib.Core.List.{List, [], _∷_, _++_}
 use lib.ListN.{length, getD}
-use Rattle.matching.specs.Collections.{Every, Pairwise, none, more}
-use Rattle.matching.specs.Laws.Collections.{every-map}
+use Rattle.basics.specs.Collections.{Every, Pairwise, none, more}
+use Rattle.basics.specs.Laws.Collections.{every-map}
 use Rattle.matching.specs.Laws.Direction.{Direction}
 
 module _ (Hit : List ℕ → Type 0) (_≺_ : List ℕ → List ℕ → Type 0) where

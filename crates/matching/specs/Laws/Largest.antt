@@ -10,7 +10,7 @@ use Rattle.matching.specs.Occurrence.{View, OccursIn, Apart}
 use Rattle.matching.specs.Rows.{level, Before}
 use Rattle.matching.specs.Lists.{leftmostIn, rightmostIn}
 use Rattle.matching.specs.Largest.{LargestIn}
-use Rattle.matching.specs.Laws.Collections.{every-reverse, pairwise-map, pairwise-reverse, getD-reverse}
+use Rattle.basics.specs.Laws.Collections.{every-reverse, pairwise-map, pairwise-reverse, getD-reverse}
 use Rattle.matching.specs.Laws.Rows.{at-level}
 use Rattle.matching.specs.Laws.Lattice.{occurs-sublattice}
 use Rattle.matching.specs.Laws.Direction.{forwards, backwards}

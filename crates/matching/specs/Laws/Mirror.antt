@@ -10,7 +10,7 @@ use Rattle.pattern.specs.Patterns.{slotAt}
 use Rattle.matching.specs.Occurrence.{View, OccursIn, at}
 use Rattle.matching.specs.Rows.{level, Before, NotAfter}
 use Rattle.matching.specs.Steps.Turning.{seen, flip}
-use Rattle.matching.specs.Laws.Collections.{getD-reverse}
+use Rattle.basics.specs.Laws.Collections.{getD-reverse}
 use Rattle.matching.specs.Laws.Rows.{at-level, After, NotBefore}
 use Rattle.matching.specs.Laws.Greedy.{Nearest, Greedy, done, next, greedy-from}
 use Rattle.matching.specs.Laws.Extremes.{FrontIn, BackIn}

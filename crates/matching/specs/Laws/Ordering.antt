@@ -4,8 +4,8 @@ use native.Mathlib.Omega.{arith}
 use mathlib.Core.Path.{_≡_, refl, sym}
 use mathlib.Core.Logic.{⊎-elim}
 use mathlib.Core.List.{List, _∷_, List·Memᴰ, List·Memᴰ·head, List·Memᴰ·tail, List·Memᴰ·cases-cons, List·Memᴰ·not-nil}
-use Rattle.matching.specs.Collections.{Every, Pairwise, none, more}
-use Rattle.matching.specs.Laws.Collections.{every-mem}
+use Rattle.basics.specs.Collections.{Every, Pairwise, none, more}
+use Rattle.basics.specs.Laws.Collections.{every-mem}
 use Rattle.matching.specs.Occurrences.{Lex, here, after}
 
 lex-asym : {r s : List ℕ} → Lex r s → Lex s r → ⊥

@@ -4,7 +4,7 @@ use mathlib.Core.Path.{_≡_, sym, ap, _∙_}
 use mathlib.Core.List.{List, [], List·Permᴰ}
 use lib.ListN.{length, getD, List·getD-map}
 use Rattle.matching.specs.Occurrence.{at, Apart}
-use Rattle.matching.specs.Collections.{Every, Pairwise}
+use Rattle.basics.specs.Collections.{Every, Pairwise}
 use Rattle.matching.specs.Rising.{sort, rising, column}
 use Rattle.matching.specs.Laws.Sorting.{length-sort, map-sort, sort-every, sort-pairwise, sort-sorted, sort-perm}
 use Rattle.matching.specs.Rows.{Before, meet, join}

@@ -7,10 +7,10 @@ use mathlib.Core.Bool.{Bool, true}
 use mathlib.Core.Option.{Option, none as nothing, some as just}
 use mathlib.Core.List.{List, [], _∷_, List·Memᴰ, List·Memᴰ·not-nil}
 use lib.ListN.{length}
-use Rattle.matching.specs.Collections.{Every, none, more, select}
+use Rattle.basics.specs.Collections.{Every, none, more, select}
 use Rattle.matching.specs.Searches.{nearest, extreme}
 use Rattle.matching.specs.Lists.{onward, follow}
-use Rattle.matching.specs.Laws.Collections.{every-map, every-mem, select-every, select-keeps, select-mem}
+use Rattle.basics.specs.Laws.Collections.{every-map, every-mem, select-every, select-keeps, select-mem}
 use Rattle.matching.specs.Laws.Direction.{Direction}
 use Rattle.matching.specs.Laws.Greedy.{Greedy, Nearest, done, next}
 

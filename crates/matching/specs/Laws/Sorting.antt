@@ -7,8 +7,8 @@ use mathlib.Core.Path.{_≡_, refl, ap, _∙_}
 use mathlib.Core.List.{List, [], _∷_, map, List·Permᴰ, List·Permᴰ·nil, List·Permᴰ·cons, List·Permᴰ·swap, List·Permᴰ·trans, Permᴰ·refl}
 use lib.ListN.{length}
 use Rattle.matching.specs.Rising.{insert, sort}
-use Rattle.matching.specs.Collections.{Every, Pairwise, none, more}
-use Rattle.matching.specs.Laws.Collections.{every-map, every-both, pairwise-of}
+use Rattle.basics.specs.Collections.{Every, Pairwise, none, more}
+use Rattle.basics.specs.Laws.Collections.{every-map, every-both, pairwise-of}
 
 module _ {A : Type 0} (meet join : A → A → A) where
   length-insert : (x : A) (xs : List A) → length (insert meet join x xs) ≡ suc (length xs)

@@ -1,12 +1,12 @@
 -- The tests hold exactly where what they test holds.
 use Prim.Native.Nat.{ℕ, zero, suc, _≤_, _<_}
-use native.Mathlib.Decide.{ℕ-discrete}
 use native.Mathlib.Omega.{arith}
 use mathlib.Core.Path.{_≡_, refl}
 use mathlib.Core.Logic.{_↔_}
 use mathlib.Core.Bool.{Bool, true, and-eq-true-iff}
 use mathlib.Core.List.{List}
 use lib.Dec.{leb, ltb, eqb}
+use borrow.Author.Count.{below-more}
 use borrow.Author.Tests.{leb-true, le-leb, ltb-true, lt-ltb, eqb-true, eq-eqb}
 use Rattle.pattern.specs.declared.Pattern.{Pattern}
 use Rattle.matching.specs.Occurrence.{View, OccursIn}
@@ -23,14 +23,11 @@ within-iff low x high = (
 pub eqb-iff : (x y : ℕ) → (eqb x y ≡ true) ↔ (x ≡ y)
 eqb-iff x y = (eqb-true x y, eq-eqb x y)
 
-below-suc : (P : ℕ → Type 0) (n : ℕ) → P n → ((j : ℕ) → j < n → P j) → (j : ℕ) → j < suc n → P j
-below-suc P n top below j h = elim (ℕ-discrete j n) [ yes e ↦ rw e top | no e ↦ below j (omega arith) ]
-
 pub each-iff : (n : ℕ) (p : ℕ → Bool) → (each n p ≡ true) ↔ ((j : ℕ) → j < n → p j ≡ true)
 unfolding each
 each-iff zero p = (λ e j h. absurd (omega arith), λ h. refl)
 each-iff (suc n) p = (
-  λ e. let b = and-eq-true-iff (p n) (each n p) .0 e in below-suc (λ j. p j ≡ true) n (b .0) (each-iff n p .0 (b .1)),
+  λ e. let b = and-eq-true-iff (p n) (each n p) .0 e in λ j h. below-more (λ i. p i ≡ true) n (each-iff n p .0 (b .1)) (b .0) j (omega arith),
   λ h. and-eq-true-iff (p n) (each n p) .1 (h n (omega arith), each-iff n p .1 (λ j l. h j (omega arith))),
 )
 

@@ -7,31 +7,39 @@ use mathlib.Core.Bool.{true, true≢false}
 use lib.ListN.{length}
 use lib.Dec.{lit≤}
 use Rattle.pattern.specs.declared.Pattern.{Pattern}
+use Rattle.pattern.specs.declared.refusal.Verdict.the-variants.{Accepted as Fine}
 use Rattle.pattern.specs.Patterns.{member, takes}
+use Rattle.pattern.specs.Tests.{slotVerdict, slotsVerdict, spanVerdict, patternVerdict, inputVerdict}
 use Rattle.pattern.specs.Accepted.{Accepted}
+use Rattle.pattern.specs.Laws.Accepting.{input-accepted}
 use Rattle.matching.specs.Occurrence.{plain, Occurs}
-use Rattle.matching.specs.Collections.{keep, select}
+use Rattle.basics.specs.Collections.{keep, select}
 use Rattle.matching.specs.Occurrences.{within, each, occursIn, places, occurrences}
 use Rattle.matching.specs.Rows.{level, before, meet, join}
 use Rattle.matching.specs.Searches.{nearest, extreme, earliestOf, latestOf}
 use Rattle.matching.specs.Lists.{onward, follow, leftmostIn, rightmostIn}
+use Rattle.matching.specs.Largest.{Largest}
 use Rattle.matching.specs.Texts.{oneWord, patternOf, text-one, text-three, text-four, text-five, text-six, text-seven, text-eight, pattern-one, pattern-two, pattern-three, pattern-four, pattern-five, pattern-six, pattern-seven, pattern-eight, Results, Nothing, NineTexts}
 use Rattle.matching.specs.Laws.Tests.{occurs-iff}
-use Rattle.matching.specs.Laws.Sums.{gather}
-use Rattle.matching.specs.Laws.Branches.{only, stands, branches, tree, forest}
+use Rattle.basics.specs.Sums.{gather}
+use Rattle.basics.specs.Choice.{only}
+use Rattle.matching.specs.Laws.Branches.{stands, branches, tree, forest}
 use Rattle.matching.specs.Laws.Cover.{distance, width, limit, least, occurrences-each}
 use Rattle.matching.specs.Laws.Extremes.{earliest-none, latest-none}
+use Rattle.matching.specs.Laws.Largest.{largest}
 
 -- the lists from the occurrences that were found
 module _ {f : Pattern} {t : List ℕ} {hits : List (List ℕ)} (found : occurrences f t ≡ hits) where
   results : {front back : List (List ℕ)} {count tally : ℕ}
+      → inputVerdict f (length t) ≡ Fine
       → follow (λ marks. earliestOf (f .count) hits marks) (length t) (level (f .count) 0) ≡ front
       → reverse (follow (λ marks. latestOf (f .count) hits marks) (length t) (level (f .count) 65535)) ≡ back
       → length front ≡ count → length hits ≡ tally → Results f t hits front back count tally
   unfolding leftmostIn rightmostIn
-  results a b c d =
+  results ok a b c d =
       let e = ap (λ (R : List (List ℕ)). follow (λ marks. earliestOf (f .count) R marks) (length t) (level (f .count) 0)) found ∙ a in
       record {
+        accepted = input-accepted f (length t) .0 ok;
         all-hits = found;
         front-list = e;
         back-list = ap (λ (R : List (List ℕ)). reverse (follow (λ marks. latestOf (f .count) R marks) (length t) (level (f .count) 65535))) found ∙ b;
@@ -48,8 +56,8 @@ one : Results pattern-one text-one
     ((1 ∷ 3 ∷ 5 ∷ []) ∷ (5 ∷ 7 ∷ 8 ∷ []) ∷ [])
     ((1 ∷ 3 ∷ 5 ∷ []) ∷ (6 ∷ 7 ∷ 8 ∷ []) ∷ [])
     2 3
-unfolding pattern-one text-one patternOf oneWord follow onward earliestOf latestOf extreme nearest select keep before each meet join
-one = results hits-one refl refl refl refl
+unfolding pattern-one text-one patternOf oneWord inputVerdict patternVerdict slotsVerdict slotVerdict spanVerdict takes member follow onward earliestOf latestOf extreme nearest select keep before each meet join
+one = results hits-one refl refl refl refl refl
 
 hits-two : occurrences pattern-two text-one ≡ (1 ∷ 3 ∷ 5 ∷ []) ∷ (5 ∷ 7 ∷ 8 ∷ []) ∷ []
 unfolding pattern-two text-one patternOf oneWord forest tree gather places branches only stands takes member distance width limit least
@@ -60,8 +68,8 @@ two : Results pattern-two text-one
     ((1 ∷ 3 ∷ 5 ∷ []) ∷ (5 ∷ 7 ∷ 8 ∷ []) ∷ [])
     ((1 ∷ 3 ∷ 5 ∷ []) ∷ (5 ∷ 7 ∷ 8 ∷ []) ∷ [])
     2 2
-unfolding pattern-two text-one patternOf oneWord follow onward earliestOf latestOf extreme nearest select keep before each meet join
-two = results hits-two refl refl refl refl
+unfolding pattern-two text-one patternOf oneWord inputVerdict patternVerdict slotsVerdict slotVerdict spanVerdict takes member follow onward earliestOf latestOf extreme nearest select keep before each meet join
+two = results hits-two refl refl refl refl refl
 
 hits-three : occurrences pattern-three text-three ≡ (2 ∷ 3 ∷ 5 ∷ []) ∷ (2 ∷ 4 ∷ 5 ∷ []) ∷ (5 ∷ 6 ∷ 7 ∷ []) ∷ []
 unfolding pattern-three text-three patternOf oneWord forest tree gather places branches only stands takes member distance width limit least
@@ -72,8 +80,8 @@ three : Results pattern-three text-three
     ((2 ∷ 3 ∷ 5 ∷ []) ∷ (5 ∷ 6 ∷ 7 ∷ []) ∷ [])
     ((2 ∷ 4 ∷ 5 ∷ []) ∷ (5 ∷ 6 ∷ 7 ∷ []) ∷ [])
     2 3
-unfolding pattern-three text-three patternOf oneWord follow onward earliestOf latestOf extreme nearest select keep before each meet join
-three = results hits-three refl refl refl refl
+unfolding pattern-three text-three patternOf oneWord inputVerdict patternVerdict slotsVerdict slotVerdict spanVerdict takes member follow onward earliestOf latestOf extreme nearest select keep before each meet join
+three = results hits-three refl refl refl refl refl
 
 hits-four : occurrences pattern-four text-four ≡ (1 ∷ 3 ∷ 4 ∷ 8 ∷ []) ∷ (4 ∷ 5 ∷ 6 ∷ 8 ∷ []) ∷ (4 ∷ 5 ∷ 6 ∷ 9 ∷ []) ∷ (4 ∷ 5 ∷ 7 ∷ 9 ∷ []) ∷ []
 unfolding pattern-four text-four patternOf oneWord forest tree gather places branches only stands takes member distance width limit least
@@ -84,8 +92,8 @@ four : Results pattern-four text-four
     ((1 ∷ 3 ∷ 4 ∷ 8 ∷ []) ∷ (4 ∷ 5 ∷ 6 ∷ 9 ∷ []) ∷ [])
     ((1 ∷ 3 ∷ 4 ∷ 8 ∷ []) ∷ (4 ∷ 5 ∷ 7 ∷ 9 ∷ []) ∷ [])
     2 4
-unfolding pattern-four text-four patternOf oneWord follow onward earliestOf latestOf extreme nearest select keep before each meet join
-four = results hits-four refl refl refl refl
+unfolding pattern-four text-four patternOf oneWord inputVerdict patternVerdict slotsVerdict slotVerdict spanVerdict takes member follow onward earliestOf latestOf extreme nearest select keep before each meet join
+four = results hits-four refl refl refl refl refl
 
 hits-five : occurrences pattern-five text-five ≡ (1 ∷ 2 ∷ 5 ∷ 7 ∷ []) ∷ (1 ∷ 4 ∷ 5 ∷ 7 ∷ []) ∷ (3 ∷ 4 ∷ 5 ∷ 7 ∷ []) ∷ (3 ∷ 6 ∷ 8 ∷ 9 ∷ []) ∷ (7 ∷ 10 ∷ 11 ∷ 12 ∷ []) ∷ (9 ∷ 10 ∷ 11 ∷ 12 ∷ []) ∷ (12 ∷ 13 ∷ 15 ∷ 16 ∷ []) ∷ (12 ∷ 14 ∷ 15 ∷ 16 ∷ []) ∷ []
 unfolding pattern-five text-five patternOf oneWord forest tree gather places branches only stands takes member distance width limit least
@@ -96,8 +104,8 @@ five : Results pattern-five text-five
     ((1 ∷ 2 ∷ 5 ∷ 7 ∷ []) ∷ (3 ∷ 6 ∷ 8 ∷ 9 ∷ []) ∷ (7 ∷ 10 ∷ 11 ∷ 12 ∷ []) ∷ (12 ∷ 13 ∷ 15 ∷ 16 ∷ []) ∷ [])
     ((1 ∷ 4 ∷ 5 ∷ 7 ∷ []) ∷ (3 ∷ 6 ∷ 8 ∷ 9 ∷ []) ∷ (9 ∷ 10 ∷ 11 ∷ 12 ∷ []) ∷ (12 ∷ 14 ∷ 15 ∷ 16 ∷ []) ∷ [])
     4 8
-unfolding pattern-five text-five patternOf oneWord follow onward earliestOf latestOf extreme nearest select keep before each meet join
-five = results hits-five refl refl refl refl
+unfolding pattern-five text-five patternOf oneWord inputVerdict patternVerdict slotsVerdict slotVerdict spanVerdict takes member follow onward earliestOf latestOf extreme nearest select keep before each meet join
+five = results hits-five refl refl refl refl refl
 
 hits-six : occurrences pattern-six text-six ≡ (1 ∷ 2 ∷ 4 ∷ []) ∷ (1 ∷ 2 ∷ 6 ∷ []) ∷ (1 ∷ 3 ∷ 6 ∷ []) ∷ (1 ∷ 5 ∷ 8 ∷ []) ∷ (1 ∷ 5 ∷ 9 ∷ []) ∷ []
 unfolding pattern-six text-six patternOf oneWord forest tree gather places branches only stands takes member distance width limit least
@@ -108,8 +116,8 @@ six : Results pattern-six text-six
     ((1 ∷ 2 ∷ 4 ∷ []) ∷ [])
     ((1 ∷ 5 ∷ 9 ∷ []) ∷ [])
     1 5
-unfolding pattern-six text-six patternOf oneWord follow onward earliestOf latestOf extreme nearest select keep before each meet join
-six = results hits-six refl refl refl refl
+unfolding pattern-six text-six patternOf oneWord inputVerdict patternVerdict slotsVerdict slotVerdict spanVerdict takes member follow onward earliestOf latestOf extreme nearest select keep before each meet join
+six = results hits-six refl refl refl refl refl
 
 hits-seven : occurrences pattern-seven text-seven ≡ (2 ∷ 3 ∷ 5 ∷ []) ∷ []
 unfolding pattern-seven text-seven patternOf oneWord forest tree gather places branches only stands takes member distance width limit least
@@ -120,8 +128,8 @@ seven : Results pattern-seven text-seven
     ((2 ∷ 3 ∷ 5 ∷ []) ∷ [])
     ((2 ∷ 3 ∷ 5 ∷ []) ∷ [])
     1 1
-unfolding pattern-seven text-seven patternOf oneWord follow onward earliestOf latestOf extreme nearest select keep before each meet join
-seven = results hits-seven refl refl refl refl
+unfolding pattern-seven text-seven patternOf oneWord inputVerdict patternVerdict slotsVerdict slotVerdict spanVerdict takes member follow onward earliestOf latestOf extreme nearest select keep before each meet join
+seven = results hits-seven refl refl refl refl refl
 
 hits-eight : occurrences pattern-eight text-eight ≡ (1 ∷ 2 ∷ 4 ∷ []) ∷ []
 unfolding pattern-eight text-eight patternOf oneWord forest tree gather places branches only stands takes member distance width limit least
@@ -132,8 +140,8 @@ eight : Results pattern-eight text-eight
     ((1 ∷ 2 ∷ 4 ∷ []) ∷ [])
     ((1 ∷ 2 ∷ 4 ∷ []) ∷ [])
     1 1
-unfolding pattern-eight text-eight patternOf oneWord follow onward earliestOf latestOf extreme nearest select keep before each meet join
-eight = results hits-eight refl refl refl refl
+unfolding pattern-eight text-eight patternOf oneWord inputVerdict patternVerdict slotsVerdict slotVerdict spanVerdict takes member follow onward earliestOf latestOf extreme nearest select keep before each meet join
+eight = results hits-eight refl refl refl refl refl
 
 two-not : Occurs pattern-two text-one (6 ∷ 7 ∷ 8 ∷ []) → ⊥
 unfolding pattern-two text-one patternOf oneWord occursIn within each takes member
@@ -149,7 +157,7 @@ nine f a =
     record {
       forward = λ marks. earliest-none f (plain f []) some marks .1 (λ s o p. nowhere f some s o);
       backward = λ marks. latest-none f (plain f []) some marks .1 (λ s o p. nowhere f some s o);
-      results = results (occurrences-each f (plain f []) some (a .least)) refl refl refl refl;
+      results = results (occurrences-each f (plain f []) some (a .least)) (input-accepted f 0 .1 (record { pattern = a; short = lit≤ tt })) refl refl refl refl;
     }
 
 pub nine-texts : NineTexts
@@ -165,3 +173,8 @@ nine-texts = record {
   eight = eight;
   nine = nine;
 }
+
+-- demand 3 of each of them: the lists that document 01 gives are largest, and bound every other nonoverlapping set
+pub results-largest : {f : Pattern} {t : List ℕ} {hits front back : List (List ℕ)} {count tally : ℕ}
+    → Results f t hits front back count tally → Largest f t front back
+results-largest r = rw (← r .front-list, ← r .back-list) (largest (r .accepted))

@@ -9,7 +9,7 @@ use Rattle.pattern.specs.Patterns.{takes, slotAt}
 use Rattle.matching.specs.Occurrence.{plain}
 use Rattle.matching.specs.Steps.Settling.{Ready}
 use Rattle.matching.specs.Steps.Turning.{viewed, Turned}
-use Rattle.matching.specs.Laws.Collections.{getD-reverse}
+use Rattle.basics.specs.Laws.Collections.{getD-reverse}
 use Rattle.matching.specs.Laws.Mirror.{Facing}
 
 pub turned-facing : {f g : Pattern} → Turned f g → (t : List ℕ) → Facing f (plain f t) g (viewed true g t)

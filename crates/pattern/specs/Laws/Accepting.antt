@@ -8,6 +8,7 @@ use mathlib.Core.List.{List·Memᴰ}
 use mathlib.Core.Bool.{Bool, true, false, true≢false}
 use lib.Dec.{ltb, eqb}
 use borrow.Author.Tests.{ltb-false, le-ltb, eqb-false, ne-eqb, eq-eqb}
+use Rattle.basics.specs.Laws.Choice.{is-false}
 use Rattle.pattern.specs.declared.slot.Slot.{Slot}
 use Rattle.pattern.specs.declared.Pattern.{Pattern}
 use Rattle.pattern.specs.declared.refusal.Refusal.{Refusal}
@@ -41,11 +42,6 @@ accepted-then Fine later e f = f
 accepted-then (Refused why) later e f = absurd (refused-fine e)
 
 -- ---- a slot
-
--- what cannot be true is false
-pub is-false : (b : Bool) → (b ≡ true → ⊥) → b ≡ false
-is-false true h = absurd (h refl)
-is-false false h = refl
 
 takes-zero : (s : Slot) → (takes s 0 ≡ false) ↔ (List·Memᴰ 0 (listed s) → ⊥)
 unfolding takes

@@ -5,7 +5,7 @@ use mathlib.Core.Path.{_≡_, refl, sym}
 use mathlib.Core.Bool.{Bool, true, false, _||_, false≢true}
 use mathlib.Core.List.{List, [], _∷_, List·Memᴰ, List·Memᴰ·head, List·Memᴰ·tail}
 use lib.ListN.{length, getD, drop}
-use lib.Seq.{drop-cons, drop-length}
+use lib.Seq.{drop-cons}
 use lib.Dec.{eqb}
 use borrow.Author.Tests.{eqb-true, eq-eqb, ne-eqb}
 use Rattle.pattern.specs.Patterns.{member}
@@ -37,7 +37,3 @@ member-here w l i h e = rw (drop-cons l i 0) (simp (eq-eqb _ _ e))
 pub member-later : (w : ℕ) (l : List ℕ) (i : ℕ) → i < length l → (getD l i 0 ≡ w → ⊥) → member w (drop i l) ≡ member w (drop (i + 1) l)
 unfolding member
 member-later w l i h e = rw (add-one, drop-cons l i 0) (simp (ne-eqb _ _ e))
-
-pub member-none : (w : ℕ) (l : List ℕ) → member w (drop (length l) l) ≡ false
-unfolding member
-member-none w l = rw (drop-length l)

@@ -1,6 +1,6 @@
 -- `report::files_report` meets its contract: what was read decides, and the words read are handed on.
 use native.Mathlib.Omega.{arith}
-use Rattle.report.specs.Laws.Writing.{writes-same}
+use Rattle.basics.specs.Laws.Writing.{writes-same}
 use Rattle.report.proofs.Reading.{read-fits, read-refused, read-words}
 use borrow.Author.Needs.{needs}
 use Rattle.report.proofs.files_report.Statement.{statement}

@@ -1,7 +1,7 @@
 -- `report::report` meets its contract: the length is tested, then the files are parted where the specification parts them.
 use native.Mathlib.Omega.{arith}
 use Rattle.report.specs.Laws.Files.{parting-within}
-use Rattle.report.specs.Laws.Writing.{writes-same, writes-all}
+use Rattle.basics.specs.Laws.Writing.{writes-same, writes-all}
 use Rattle.report.proofs.Reading.{long-input, input-parted}
 use borrow.Author.Needs.{needs}
 use Rattle.report.proofs.report.Statement.{statement}

@@ -2,7 +2,7 @@
 use native.Mathlib.Omega.{arith}
 use mathlib.Core.Path.{sym, _∙_}
 use borrow.Author.Needs.{needs}
-use Rattle.report.specs.Laws.Writing.{writes-same}
+use Rattle.basics.specs.Laws.Writing.{writes-same}
 use Rattle.report.proofs.Listing.{Backed, backed}
 use Rattle.report.proofs.tally_report.Statement.{statement}
 use Rattle.report.proofs.tally_report.Tie as tie

@@ -11,32 +11,35 @@ use lib.Seq.{getD-append-add, take-at}
 use borrow.Author.Tests.{ltb-true, ltb-false}
 use Rattle.pattern.specs.Laws.Accepting.{input-accepted}
 use Rattle.pattern.specs.Refusals.{numberOf, placeOf}
-use Rattle.pattern.specs.Tests.{pick, inputVerdict}
+use Rattle.basics.specs.Choice.{pick}
+use Rattle.pattern.specs.Tests.{inputVerdict}
 use Rattle.pattern.specs.declared.Pattern.{Pattern}
 use Rattle.pattern.specs.declared.refusal.Refusal.{Refusal}
 use Rattle.pattern.specs.declared.refusal.Refusal.the-variants.{FileLength, ListLength}
 use Rattle.pattern.specs.declared.refusal.Verdict.{Verdict}
 use Rattle.pattern.specs.declared.refusal.Verdict.the-variants.{Accepted, Refused}
 use Rattle.matching.specs.Answers.{listed}
-use Rattle.matching.specs.Collections.{Every, none, more}
+use Rattle.basics.specs.Collections.{Every, none, more}
 use Rattle.matching.specs.Laws.Largest.{largest}
 use Rattle.matching.specs.Lists.{leftmost, rightmost}
 use Rattle.matching.specs.Occurrence.{Occurs}
-use Rattle.matching.specs.Written.{flat}
+use Rattle.basics.specs.Written.{flat}
 use Rattle.counting.specs.Answers.{tallied}
 use Rattle.counting.specs.declared.total.Tallied.{Tallied}
 use Rattle.counting.specs.declared.total.Tallied.the-variants.{Total, Refused as NotTallied}
 use Rattle.format.specs.Input.{inputRead}
-use Rattle.format.specs.Shown.{closed, digitsIn, joined}
+use Rattle.basics.specs.Digits.{digitsIn}
+use Rattle.format.specs.Shown.{closed, joined}
 use Rattle.format.specs.Texts.{shownWords, textContents}
 use Rattle.format.specs.declared.texts.TextRead.{TextRead}
 use Rattle.format.specs.declared.texts.TextRead.the-variants.{Words, Refused as NotRead}
 use Rattle.report.specs.Files.{patternFile, textFile}
-use Rattle.report.specs.Laws.Digits.{few-digits, most-digits}
+use Rattle.basics.specs.Laws.Digits.{few-digits, most-digits}
 use Rattle.report.specs.Laws.Lines.{closed-append}
-use Rattle.report.specs.Laws.Writing.{overlaid-short}
+use Rattle.basics.specs.Laws.Writing.{overlaid-short}
 use Rattle.report.specs.Lines.{countNames, entryLine, entryLines, listsReport, refusalNames, refusalReport, tableNames, values}
-use Rattle.report.specs.Report.{afterLists, afterTally, afterText, filesReport, overlaid, reported, searchReport}
+use Rattle.basics.specs.Writing.{overlaid}
+use Rattle.report.specs.Report.{afterLists, afterTally, afterText, filesReport, reported, searchReport}
 
 -- ---- lines
 

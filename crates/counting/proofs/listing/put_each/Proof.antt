@@ -30,14 +30,14 @@ start c = c .before .before .before .before .before .before
 abbrev turn : tie.After-shared-slice-known4 Inv-loop μ-loop → tie.In-loop Inv-loop μ-loop
 turn c = c .before
 
-abbrev turn-of : tie.After-clip Inv-loop μ-loop → tie.In-loop Inv-loop μ-loop
+abbrev turn-of : tie.After-smaller Inv-loop μ-loop → tie.In-loop Inv-loop μ-loop
 turn-of c = turn (c .before .before)
 
 abbrev reach-at : tie.After-walk-arg2 Inv-loop μ-loop → tie.After-reach-all Inv-loop μ-loop
 reach-at c = c .before .before .before .before .before
 
-abbrev clip-at : tie.After-walk-arg2 Inv-loop μ-loop → tie.After-clip Inv-loop μ-loop
-clip-at c = reach-at c .before .before
+abbrev smaller-at : tie.After-walk-arg2 Inv-loop μ-loop → tie.After-smaller Inv-loop μ-loop
+smaller-at c = reach-at c .before .before
 
 abbrev walk-at : tie.After-slice-known4 Inv-loop μ-loop → tie.After-walk Inv-loop μ-loop
 walk-at c = c .before .before .before
@@ -52,18 +52,18 @@ abbrev listing : (c : tie.In-loop Inv-loop μ-loop) (g : Given (start (c .before
     → Listing (planPattern (g .plan)) (planView (g .plan)) (start (c .before) .args .list .now) (c .before .loop .i) (c .before .loop .rows) (c .before .loop .list)
 listing c g = c .before .loop .inv .3 g
 
-module _ (c : tie.After-walk-arg2 Inv-loop μ-loop) (g : Given (start (turn-of (clip-at c) .before))) where
-  from : turn-of (clip-at c) .before .loop .i + start (turn-of (clip-at c) .before) .args .least ≡ turn-of (clip-at c) .before .loop .i + g .plan .least
+module _ (c : tie.After-walk-arg2 Inv-loop μ-loop) (g : Given (start (turn-of (smaller-at c) .before))) where
+  from : turn-of (smaller-at c) .before .loop .i + start (turn-of (smaller-at c) .before) .args .least ≡ turn-of (smaller-at c) .before .loop .i + g .plan .least
   from = omega (arith, g .from)
 
-  leads : Leads (start (turn-of (clip-at c) .before) .args .m) (turn-of (clip-at c) .before .loop .i) (start (turn-of (clip-at c) .before) .args .low .now) (start (turn-of (clip-at c) .before) .args .high .now)
+  leads : Leads (start (turn-of (smaller-at c) .before) .args .m) (turn-of (smaller-at c) .before .loop .i) (start (turn-of (smaller-at c) .before) .args .low .now) (start (turn-of (smaller-at c) .before) .args .high .now)
       (reach-at c .reach-all .last .1 .1 .1 .1 .1 .1 .0)
-      (size (planPattern (g .plan)) (startAt (turn-of (clip-at c) .before .loop .i) (clip-at c .clip .result) (turn-of (clip-at c) .before .loop .i + start (turn-of (clip-at c) .before) .args .least)))
-      (rowsAt (planPattern (g .plan)) (planView (g .plan)) (startAt (turn-of (clip-at c) .before .loop .i) (clip-at c .clip .result) (turn-of (clip-at c) .before .loop .i + start (turn-of (clip-at c) .before) .args .least)))
+      (size (planPattern (g .plan)) (startAt (turn-of (smaller-at c) .before .loop .i) (smaller-at c .smaller .result) (turn-of (smaller-at c) .before .loop .i + start (turn-of (smaller-at c) .before) .args .least)))
+      (rowsAt (planPattern (g .plan)) (planView (g .plan)) (startAt (turn-of (smaller-at c) .before .loop .i) (smaller-at c .smaller .result) (turn-of (smaller-at c) .before .loop .i + start (turn-of (smaller-at c) .before) .args .least)))
   leads =
-      let k = clip-at c in
+      let k = smaller-at c in
       let t = turn-of k in
-      let r = startRun (g .plan) (t .loop-test .taken) (span-some (g .plan .handed .input .pattern) (g .wide)) (k .clip .ensures) in
+      let r = startRun (g .plan) (t .loop-test .taken) (span-some (g .plan .handed .input .pattern) (g .wide)) (k .smaller .ensures) in
       leading _ _ _ (g .plan .handed) (r .inside) (reach-at c .reach-all .ensures r)
       (omega (arith, reach-at c .reach-all .kept .1 .1 .1 .1 .1 .1 .0, t .before .loop .inv .0, start (t .before) .pre .1))
 
@@ -73,11 +73,11 @@ loop-holds c = (refl, refl, refl, λ g. listing-begin)
 shared-slice-read-if1 : tie.Need-shared-slice-read-if1 Inv-loop μ-loop
 shared-slice-read-if1 c = let g = start (turn c .before) .pre .0 .plan .handed in omega (arith, g .table .size, g .input .short)
 
-sub-clip : tie.Need-sub-clip Inv-loop μ-loop
-sub-clip c = search needs
+sub-smaller : tie.Need-sub-smaller Inv-loop μ-loop
+sub-smaller c = search needs
 
-clip-requires : tie.Need-clip-requires Inv-loop μ-loop
-clip-requires c κs = search needs
+smaller-requires : tie.Need-smaller-requires Inv-loop μ-loop
+smaller-requires c κs = search needs
 
 add-t20 : tie.Need-add-t20 Inv-loop μ-loop
 add-t20 c =
@@ -88,14 +88,14 @@ add-t20 c =
 
 reach-all-requires : tie.Need-reach-all-requires Inv-loop μ-loop
 reach-all-requires c κs = let k = c .before in let t = turn-of k in let b = start (t .before) in let g = b .pre .0 in
-    (startRun (g .plan) (t .loop-test .taken) (span-some (g .plan .handed .input .pattern) (g .wide)) (k .clip .ensures), omega (arith, t .before .loop .inv .0, b .pre .1))
+    (startRun (g .plan) (t .loop-test .taken) (span-some (g .plan .handed .input .pattern) (g .wide)) (k .smaller .ensures), omega (arith, t .before .loop .inv .0, b .pre .1))
 
 slice-aggregate-walk : tie.Need-slice-aggregate-walk Inv-loop μ-loop
 slice-aggregate-walk c = search needs
 
 walk-requires : tie.Need-walk-requires Inv-loop μ-loop
-walk-requires c κs = let k = clip-at c in let t = turn-of k in let g = start (t .before) .pre .0 in
-    (window-walk (g .plan .handed .input) (listing t g) (t .loop-test .taken) (g .wide) (k .clip .ensures) (from c g) (leads c g) (g .room), t .before .loop .inv .1)
+walk-requires c κs = let k = smaller-at c in let t = turn-of k in let g = start (t .before) .pre .0 in
+    (window-walk (g .plan .handed .input) (listing t g) (t .loop-test .taken) (g .wide) (k .smaller .ensures) (from c g) (leads c g) (g .room), t .before .loop .inv .1)
 
 add-i : tie.Need-add-i Inv-loop μ-loop
 add-i c = search needs
@@ -106,7 +106,7 @@ loop-less c = search needs
 loop-again : tie.Need-loop-again Inv-loop μ-loop
 loop-again c =
     let w = walk-at c in
-    let k = clip-at (w .before) in
+    let k = smaller-at (w .before) in
     let t = turn-of k in
     let v = t .before .loop .inv in
     let kept = w .walk .kept .1 .1 .1 .1 .1 .1 .1 .1 in (
@@ -114,7 +114,7 @@ loop-again c =
       kept .0 ∙ v .1,
       kept .1 .1 .0 ∙ v .2,
       λ g. let h = g .plan .handed .input in let i = t .loop-test .taken in let e = from (w .before) g in let l = leads (w .before) g in
-          listing-more h (listing t g) i (g .wide) (k .clip .ensures) e l (g .room) (kept .1 .1 .0) (w .walk .ensures .0 (window-walk h (listing t g) i (g .wide) (k .clip .ensures) e l (g .room))),
+          listing-more h (listing t g) i (g .wide) (k .smaller .ensures) e l (g .room) (kept .1 .1 .0) (w .walk .ensures .0 (window-walk h (listing t g) i (g .wide) (k .smaller .ensures) e l (g .room))),
     )
 
 add-i-2 : tie.Need-add-i-2 Inv-loop μ-loop
@@ -144,8 +144,8 @@ put-each-spec =
     μ-loop
     loop-holds
     shared-slice-read-if1
-    sub-clip
-    clip-requires
+    sub-smaller
+    smaller-requires
     add-t20
     reach-all-requires
     slice-aggregate-walk

@@ -22,14 +22,14 @@ abbrev μ-loop : tie.MeasureT-loop
 abbrev start : tie.After-struct-known Inv-loop μ-loop → tie.Start Inv-loop μ-loop
 start c = c .before .before .before .before .before
 
-abbrev clip-at : tie.After-reach-last Inv-loop μ-loop → tie.After-clip Inv-loop μ-loop
-clip-at c = c .before .before
+abbrev smaller-at : tie.After-reach-last Inv-loop μ-loop → tie.After-smaller Inv-loop μ-loop
+smaller-at c = c .before .before
 
 abbrev last-at : tie.After-slice-known2 Inv-loop μ-loop → tie.After-reach-last Inv-loop μ-loop
 last-at c = c .before .before
 
 abbrev entry : tie.At-loop Inv-loop μ-loop → tie.Start Inv-loop μ-loop
-entry c = start (clip-at (last-at (c .before)) .before)
+entry c = start (smaller-at (last-at (c .before)) .before)
 
 abbrev low-at : tie.After-widen2 Inv-loop μ-loop → tie.After-widen Inv-loop μ-loop
 low-at c = c .before .before
@@ -37,7 +37,7 @@ low-at c = c .before .before
 abbrev turn : tie.After-widen2 Inv-loop μ-loop → tie.In-loop Inv-loop μ-loop
 turn c = low-at c .before .before
 
-abbrev high-at : tie.After-clip2 Inv-loop μ-loop → tie.After-widen2 Inv-loop μ-loop
+abbrev high-at : tie.After-smaller2 Inv-loop μ-loop → tie.After-widen2 Inv-loop μ-loop
 high-at c = c .before .before
 
 abbrev on-at : tie.After-slice-known3 Inv-loop μ-loop → tie.After-reach-on Inv-loop μ-loop
@@ -85,11 +85,11 @@ back c =
 sub-j : tie.Need-sub-j Inv-loop μ-loop
 sub-j c = let s = small (c .before .before .before .before) in omega arith
 
-add-clip : tie.Need-add-clip Inv-loop μ-loop
-add-clip c = let s = small (start c) in omega arith
+add-smaller : tie.Need-add-smaller Inv-loop μ-loop
+add-smaller c = let s = small (start c) in omega arith
 
-clip-requires : tie.Need-clip-requires Inv-loop μ-loop
-clip-requires c κs = search needs
+smaller-requires : tie.Need-smaller-requires Inv-loop μ-loop
+smaller-requires c κs = search needs
 
 mul-reach-last : tie.Need-mul-reach-last Inv-loop μ-loop
 mul-reach-last c = let s = small (start (c .before)) in omega arith
@@ -101,12 +101,12 @@ mul-reach-last-2 : tie.Need-mul-reach-last-2 Inv-loop μ-loop
 mul-reach-last-2 c = let s = small (start (c .before)) in omega arith
 
 reach-last-requires : tie.Need-reach-last-requires Inv-loop μ-loop
-reach-last-requires c κs = let k = c .before in let b = start (k .before) in let s = small b in let e = k .clip .ensures in
+reach-last-requires c κs = let k = c .before in let b = start (k .before) in let s = small b in let e = k .smaller .ensures in
     (omega arith, omega arith, omega arith, omega (arith, b .pre .1))
 
 loop-holds : tie.Need-loop-holds Inv-loop μ-loop
-loop-holds c = let e = last-at c in let k = clip-at e in
-    (refl, λ g. let h = g .plan .handed in tabling-begin (h .table) (g .inside) (stage-begin _ (h .input .pattern .some) (h .farthest) (k .clip .ensures)) (e .reach-last .ensures))
+loop-holds c = let e = last-at c in let k = smaller-at e in
+    (refl, λ g. let h = g .plan .handed in tabling-begin (h .table) (g .inside) (stage-begin _ (h .input .pattern .some) (h .farthest) (k .smaller .ensures)) (e .reach-last .ensures))
 
 mul-widen : tie.Need-mul-widen Inv-loop μ-loop
 mul-widen c = let b = entry (c .before) in let s = small b in let i = table c (run b) .here .inside in omega arith
@@ -150,11 +150,11 @@ sub-r c = back c .0
 sub-r-2 : tie.Need-sub-r-2 Inv-loop μ-loop
 sub-r-2 c = back c .1
 
-add-clip-2 : tie.Need-add-clip-2 Inv-loop μ-loop
-add-clip-2 c = let h = c .before in let b = back h in let s = small (entry (turn h .before)) in let z = near h in omega arith
+add-smaller-2 : tie.Need-add-smaller-2 Inv-loop μ-loop
+add-smaller-2 c = let h = c .before in let b = back h in let s = small (entry (turn h .before)) in let z = near h in omega arith
 
-clip-requires-2 : tie.Need-clip-requires-2 Inv-loop μ-loop
-clip-requires-2 c κs = search needs
+smaller-requires-2 : tie.Need-smaller-requires-2 Inv-loop μ-loop
+smaller-requires-2 c κs = search needs
 
 mul-reach-on : tie.Need-mul-reach-on Inv-loop μ-loop
 mul-reach-on c =
@@ -185,7 +185,7 @@ reach-on-requires c κs =
     let g = run b in
     let s = small b in
     let i = inside h g in
-    let less = size-less (table (turn h) g .here) (turn h .loop-test .taken) (high h g) (k .clip2 .ensures) in
+    let less = size-less (table (turn h) g .here) (turn h .loop-test .taken) (high h g) (k .smaller2 .ensures) in
     let gap = run-gap g i (low-at h .widen .ensures .0) (h .widen2 .ensures .0) in
     let pos = turn h .loop-test .taken in
     (omega arith, omega arith, gap .1, omega arith, omega arith, omega (arith, long (turn h)))
@@ -198,7 +198,7 @@ loop-again c = let p = on-at c in let k = p .before .before in let h = high-at k
   p .reach-on .kept .1 .1 .1 .1 .1 .1 .1 .0 ∙ turn h .before .loop .inv .0,
   λ g. let s = small (entry (turn h .before)) in
       let gap = run-gap g (inside h g) (low-at h .widen .ensures .0) (h .widen2 .ensures .0) in
-      tabling-more (g .plan .handed .table) (g .inside) (omega arith) (table (turn h) g) (turn h .loop-test .taken) (low h g) (high h g) (gap .1) (k .clip2 .ensures) (p .reach-on .ensures),
+      tabling-more (g .plan .handed .table) (g .inside) (omega arith) (table (turn h) g) (turn h .loop-test .taken) (low h g) (high h g) (gap .1) (k .smaller2 .ensures) (p .reach-on .ensures),
 )
 
 same-length : tie.Need-same-length Inv-loop μ-loop
@@ -214,8 +214,8 @@ reach-all-spec =
     Inv-loop
     μ-loop
     sub-j
-    add-clip
-    clip-requires
+    add-smaller
+    smaller-requires
     mul-reach-last
     add-reach-last
     mul-reach-last-2
@@ -230,8 +230,8 @@ reach-all-spec =
     sub-j-2
     sub-r
     sub-r-2
-    add-clip-2
-    clip-requires-2
+    add-smaller-2
+    smaller-requires-2
     mul-reach-on
     add-reach-on
     mul-reach-on-2

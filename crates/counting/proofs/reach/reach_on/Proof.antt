@@ -28,26 +28,26 @@ add-d c = omega (arith, c .before .loop .inv .inside, c .before .loop .inv .long
 add-c : tie.Need-add-c Inv-loop μ-loop
 add-c c = omega (arith, c .before .loop .inv .inside, c .before .loop .inv .long)
 
-add-clip : tie.Need-add-clip Inv-loop μ-loop
-add-clip c = omega (arith, c .before .loop .inv .inside)
+add-smaller : tie.Need-add-smaller Inv-loop μ-loop
+add-smaller c = omega (arith, c .before .loop .inv .inside)
 
-add-clip-2 : tie.Need-add-clip-2 Inv-loop μ-loop
-add-clip-2 c = omega (arith, c .before .loop .inv .inside)
+add-smaller-2 : tie.Need-add-smaller-2 Inv-loop μ-loop
+add-smaller-2 c = omega (arith, c .before .loop .inv .inside)
 
-clip-requires : tie.Need-clip-requires Inv-loop μ-loop
-clip-requires c κs = search needs
+smaller-requires : tie.Need-smaller-requires Inv-loop μ-loop
+smaller-requires c κs = search needs
 
 add-c-2 : tie.Need-add-c-2 Inv-loop μ-loop
-add-c-2 c = omega (arith, c .before .before .loop .inv .inside, c .before .before .loop .inv .long, c .clip .ensures)
+add-c-2 c = omega (arith, c .before .before .loop .inv .inside, c .before .before .loop .inv .long, c .smaller .ensures)
 
 shared-slice-read-holds : tie.Need-shared-slice-read-holds Inv-loop μ-loop
 shared-slice-read-holds c = omega (arith, c .before .before .before .loop .inv .inside)
 
 mul-widen : tie.Need-mul-widen Inv-loop μ-loop
-mul-widen c = omega (arith, c .before .before .before .loop .inv .inside, c .before .before .before .loop .inv .long, c .before .clip .ensures)
+mul-widen c = omega (arith, c .before .before .before .loop .inv .inside, c .before .before .before .loop .inv .long, c .before .smaller .ensures)
 
 slice-read-widen : tie.Need-slice-read-widen Inv-loop μ-loop
-slice-read-widen c = omega (arith, c .before .before .before .before .loop .inv .inside, c .before .before .before .before .loop .inv .long, c .before .before .clip .ensures)
+slice-read-widen c = omega (arith, c .before .before .before .before .loop .inv .inside, c .before .before .before .before .loop .inv .long, c .before .before .smaller .ensures)
 
 widen-requires : tie.Need-widen-requires Inv-loop μ-loop
 widen-requires c κs = search needs
@@ -76,7 +76,7 @@ loop-less c = search needs
 loop-again : tie.Need-loop-again Inv-loop μ-loop
 loop-again c =
     let a = (c .before .before .before .before .before .before .before .before .before .before .args) in
-    reach-here (c .before .before .before .before .before .before .before .loop .inv) (c .before .before .before .before .before .before .loop-test .taken) (omega (arith, c .before .before .before .before .before .before .before .before .before .before .pre .3, c .before .before .before .before .before .before .before .before .before .before .pre .5)) (lead (a .fits .now) (a .at) (a .low) (a .high) (a .m) (c .before .before .before .before .before .before .before .loop .inv) (c .before .before .before .before .before .before .before .before .before .before .pre .3) (c .before .holds .ensures) (c .before .before .widen .ensures .0) (c .before .before .before .before .before .clip .ensures)) (c .if1 .taken)
+    reach-here (c .before .before .before .before .before .before .before .loop .inv) (c .before .before .before .before .before .before .loop-test .taken) (omega (arith, c .before .before .before .before .before .before .before .before .before .before .pre .3, c .before .before .before .before .before .before .before .before .before .before .pre .5)) (lead (a .fits .now) (a .at) (a .low) (a .high) (a .m) (c .before .before .before .before .before .before .before .loop .inv) (c .before .before .before .before .before .before .before .before .before .before .pre .3) (c .before .holds .ensures) (c .before .before .widen .ensures .0) (c .before .before .before .before .before .smaller .ensures)) (c .if1 .taken)
 
 mul-next-2 : tie.Need-mul-next-2 Inv-loop μ-loop
 mul-next-2 c = omega (arith, c .before .before .before .before .before .before .before .loop .inv .inside, c .before .before .before .before .before .before .before .loop .inv .long)
@@ -90,7 +90,7 @@ loop-less-2 c = search needs
 loop-again-2 : tie.Need-loop-again-2 Inv-loop μ-loop
 loop-again-2 c =
     let a = (c .before .before .before .before .before .before .before .before .before .before .args) in
-    reach-later (c .before .before .before .before .before .before .before .loop .inv) (c .before .before .before .before .before .before .loop-test .taken) (omega (arith, c .before .before .before .before .before .before .before .before .before .before .pre .3, c .before .before .before .before .before .before .before .before .before .before .pre .5)) (lead (a .fits .now) (a .at) (a .low) (a .high) (a .m) (c .before .before .before .before .before .before .before .loop .inv) (c .before .before .before .before .before .before .before .before .before .before .pre .3) (c .before .holds .ensures) (c .before .before .widen .ensures .0) (c .before .before .before .before .before .clip .ensures)) (c .if1 .left)
+    reach-later (c .before .before .before .before .before .before .before .loop .inv) (c .before .before .before .before .before .before .loop-test .taken) (omega (arith, c .before .before .before .before .before .before .before .before .before .before .pre .3, c .before .before .before .before .before .before .before .before .before .before .pre .5)) (lead (a .fits .now) (a .at) (a .low) (a .high) (a .m) (c .before .before .before .before .before .before .before .loop .inv) (c .before .before .before .before .before .before .before .before .before .before .pre .3) (c .before .holds .ensures) (c .before .before .widen .ensures .0) (c .before .before .before .before .before .smaller .ensures)) (c .if1 .left)
 
 add-d-2 : tie.Need-add-d-2 Inv-loop μ-loop
 add-d-2 c = omega (arith, c .before .loop .inv .long)
@@ -118,9 +118,9 @@ reach-on-spec =
     add-k
     add-d
     add-c
-    add-clip
-    add-clip-2
-    clip-requires
+    add-smaller
+    add-smaller-2
+    smaller-requires
     add-c-2
     shared-slice-read-holds
     mul-widen

@@ -28,10 +28,10 @@ start c = start-of (c .before)
 abbrev turn : tie.After-shared-slice-known4 Inv-loop μ-loop → tie.At-loop Inv-loop μ-loop
 turn c = c .before .before
 
-abbrev clip-at : tie.After-y Inv-loop μ-loop → tie.After-clip Inv-loop μ-loop
-clip-at c = c .before .before
+abbrev smaller-at : tie.After-y Inv-loop μ-loop → tie.After-smaller Inv-loop μ-loop
+smaller-at c = c .before .before
 
-abbrev loop-of : tie.After-clip Inv-loop μ-loop → tie.At-loop Inv-loop μ-loop
+abbrev loop-of : tie.After-smaller Inv-loop μ-loop → tie.At-loop Inv-loop μ-loop
 loop-of c = turn (c .before .before)
 
 abbrev ways-at : tie.After-y2 Inv-loop μ-loop → tie.After-ways Inv-loop μ-loop
@@ -43,11 +43,11 @@ loop-holds c = (refl, refl, search needs, refl, refl, λ g el es. filling-begin 
 shared-slice-read-if1 : tie.Need-shared-slice-read-if1 Inv-loop μ-loop
 shared-slice-read-if1 c = let g = start (turn c) .pre .0 in omega (arith, g .handed .table .size, g .handed .input .short)
 
-sub-clip : tie.Need-sub-clip Inv-loop μ-loop
-sub-clip c = search needs
+sub-smaller : tie.Need-sub-smaller Inv-loop μ-loop
+sub-smaller c = search needs
 
-clip-requires : tie.Need-clip-requires Inv-loop μ-loop
-clip-requires c κs = search needs
+smaller-requires : tie.Need-smaller-requires Inv-loop μ-loop
+smaller-requires c κs = search needs
 
 add-t20 : tie.Need-add-t20 Inv-loop μ-loop
 add-t20 c = search needs
@@ -60,12 +60,12 @@ slice-aggregate-ways-2 c = search needs
 
 ways-requires : tie.Need-ways-requires Inv-loop μ-loop
 ways-requires c κs =
-    let k = clip-at c in
+    let k = smaller-at c in
     let l = loop-of k in
     let b = start l in
     let z = b .pre .1 .1 in
     let i = k .before .before .before .loop-test .taken in
-    (startRun (b .pre .0) i (z .1) (k .clip .ensures), record { high = omega (arith, k .clip .ensures, l .loop .inv .0, z .2); low = omega (arith, k .clip .ensures, l .loop .inv .1, z .2) })
+    (startRun (b .pre .0) i (z .1) (k .smaller .ensures), record { high = omega (arith, k .smaller .ensures, l .loop .inv .0, z .2); low = omega (arith, k .smaller .ensures, l .loop .inv .1, z .2) })
 
 array-read-hi : tie.Need-array-read-hi Inv-loop μ-loop
 array-read-hi c = search needs
@@ -94,7 +94,7 @@ loop-less c = search needs
 loop-again : tie.Need-loop-again Inv-loop μ-loop
 loop-again c =
     let u = ways-at c in
-    let k = clip-at (u .before) in
+    let k = smaller-at (u .before) in
     let l = loop-of k in
     let b = start l in
     let z = b .pre .1 .1 in
@@ -105,7 +105,7 @@ loop-again c =
       search needs,
       search needs,
       search needs,
-      λ g el es. filling-more (v .5 g el es) (g .handed .input) (b .pre .1 .0 .room) i es (z .1) (k .clip .ensures) (omega (arith, el)) (u .ways .ensures (startRun g i (z .1) (k .clip .ensures))),
+      λ g el es. filling-more (v .5 g el es) (g .handed .input) (b .pre .1 .0 .room) i es (z .1) (k .smaller .ensures) (omega (arith, el)) (u .ways .ensures (startRun g i (z .1) (k .smaller .ensures))),
     )
 
 add-i-2 : tie.Need-add-i-2 Inv-loop μ-loop
@@ -135,8 +135,8 @@ each-spec =
     μ-loop
     loop-holds
     shared-slice-read-if1
-    sub-clip
-    clip-requires
+    sub-smaller
+    smaller-requires
     add-t20
     slice-aggregate-ways
     slice-aggregate-ways-2

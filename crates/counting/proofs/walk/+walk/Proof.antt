@@ -15,7 +15,7 @@ use borrow.Fn.PlainCycle.{Measures, is, falls, and}
 use Rattle.counting.proofs.walk.walk.Reads as walk
 use Rattle.counting.proofs.walk.walk.Kinds as walk-kinds
 use Rattle.counting.proofs.walk.+walk.Lts-walk as walk-lts
-use Rattle.counting.proofs.numbers.widen.Reads as widen-reads
+use Rattle.basics.proofs.widen.Reads as widen-reads
 use Rattle.counting.proofs.walk.entry.Reads as entry-reads
 use Rattle.counting.proofs.walk.put_at.Reads as put-at-reads
 use Rattle.counting.proofs.walk.+walk.{statement}

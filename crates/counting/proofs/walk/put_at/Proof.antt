@@ -1,7 +1,7 @@
 -- `counting::walk::put_at` meets its contract: the row written at the start of the part stands there in the whole list.
 use native.Mathlib.Omega.{arith}
 use Prim.Native.Nat.{_*_}
-use Rattle.matching.specs.Laws.Lending.{row-pasted}
+use Rattle.basics.specs.Laws.Lending.{row-pasted}
 use borrow.Author.Needs.{needs}
 use Rattle.counting.proofs.walk.put_at.Statement.{statement}
 use Rattle.counting.proofs.walk.put_at.Tie as tie
@@ -31,7 +31,7 @@ returns : tie.Need-returns
 returns c =
     let start = c .before .before .before .before .before .before in
     let a = start .args in
-    row-pasted (a .list .now) (a .k * a .m) (omega (arith, start .pre .1)) (a .row .now) (c .before .before .put-row .last .0) (a .m) (start .pre .0) (start .pre .1) (c .before .before .put-row .ensures)
+    row-pasted (a .list .now) (a .k * a .m) (omega (arith, start .pre .1)) (a .row .now) (c .before .before .put-row .last .0) (a .m) (start .pre .0) (start .pre .1) (c .before .before .put-row .ensures .1)
 
 pub put-at-spec : {M : Type 1} → statement M
 put-at-spec =

@@ -21,23 +21,23 @@ add-k c = search needs
 shared-slice-read-if1 : tie.Need-shared-slice-read-if1 Inv-loop μ-loop
 shared-slice-read-if1 c = search needs
 
-add-clip : tie.Need-add-clip Inv-loop μ-loop
-add-clip c = search needs
+add-smaller : tie.Need-add-smaller Inv-loop μ-loop
+add-smaller c = search needs
 
-add-clip-2 : tie.Need-add-clip-2 Inv-loop μ-loop
-add-clip-2 c = search needs
+add-smaller-2 : tie.Need-add-smaller-2 Inv-loop μ-loop
+add-smaller-2 c = search needs
 
-clip-requires : tie.Need-clip-requires Inv-loop μ-loop
-clip-requires c κs = search needs
+smaller-requires : tie.Need-smaller-requires Inv-loop μ-loop
+smaller-requires c κs = search needs
 
-add-clip-3 : tie.Need-add-clip-3 Inv-loop μ-loop
-add-clip-3 c = search needs
+add-smaller-3 : tie.Need-add-smaller-3 Inv-loop μ-loop
+add-smaller-3 c = search needs
 
-add-clip-4 : tie.Need-add-clip-4 Inv-loop μ-loop
-add-clip-4 c = search needs
+add-smaller-4 : tie.Need-add-smaller-4 Inv-loop μ-loop
+add-smaller-4 c = search needs
 
-clip-requires-2 : tie.Need-clip-requires-2 Inv-loop μ-loop
-clip-requires-2 c κs = search needs
+smaller-requires-2 : tie.Need-smaller-requires-2 Inv-loop μ-loop
+smaller-requires-2 c κs = search needs
 
 mul-t19 : tie.Need-mul-t19 Inv-loop μ-loop
 mul-t19 c = search needs
@@ -70,7 +70,7 @@ sub-requires c κs =
     let l = c .before .before .before .before .before .before .before .before .before .loop .inv in
     let x = c .before .before .before .before .before .before .before .before .loop-test .taken in
     let g = b .1 .1 in
-    spread-order l x (g .3) (g .1) (c .before .before .before .before .before .clip .ensures) (c .before .before .before .before .clip2 .ensures) (b .1 .0)
+    spread-order l x (g .3) (g .1) (c .before .before .before .before .before .smaller .ensures) (c .before .before .before .before .smaller2 .ensures) (b .1 .0)
 
 mul-hi : tie.Need-mul-hi Inv-loop μ-loop
 mul-hi c = search needs
@@ -97,7 +97,7 @@ loop-again c =
     let l = c .before .before .before .before .before .before .before .before .before .before .loop .inv in
     let x = c .before .before .before .before .before .before .before .before .before .loop-test .taken in
     let g = b .1 .1 in
-    spread-more l x (g .3) (b .0) _ _ (spread-take l x (g .3) (g .1) (c .before .before .before .before .before .before .clip .ensures) (c .before .before .before .before .before .clip2 .ensures) _ (c .before .before .before .before .before .before .before .if1 .taken) (c .sub .ensures))
+    spread-more l x (g .3) (b .0) _ _ (spread-take l x (g .3) (g .1) (c .before .before .before .before .before .before .smaller .ensures) (c .before .before .before .before .before .smaller2 .ensures) _ (c .before .before .before .before .before .before .before .if1 .taken) (c .sub .ensures))
 
 mul-hi-2 : tie.Need-mul-hi-2 Inv-loop μ-loop
 mul-hi-2 c = search needs
@@ -155,12 +155,12 @@ spread-spec =
     loop-holds
     add-k
     shared-slice-read-if1
-    add-clip
-    add-clip-2
-    clip-requires
-    add-clip-3
-    add-clip-4
-    clip-requires-2
+    add-smaller
+    add-smaller-2
+    smaller-requires
+    add-smaller-3
+    add-smaller-4
+    smaller-requires-2
     mul-t19
     slice-read-t22
     mul-t20

@@ -21,14 +21,14 @@ abbrev μ-loop : tie.MeasureT-loop
 abbrev start : tie.After-struct-known Inv-loop μ-loop → tie.Start Inv-loop μ-loop
 start c = c .before .before .before .before .before .before
 
-abbrev clip-at : tie.After-ends-arg2 Inv-loop μ-loop → tie.After-clip Inv-loop μ-loop
-clip-at c = c .before .before
+abbrev smaller-at : tie.After-ends-arg2 Inv-loop μ-loop → tie.After-smaller Inv-loop μ-loop
+smaller-at c = c .before .before
 
 abbrev ends-at : tie.After-slice-known4 Inv-loop μ-loop → tie.After-ends Inv-loop μ-loop
 ends-at c = c .before .before .before .before
 
 abbrev entry : tie.At-loop Inv-loop μ-loop → tie.Start Inv-loop μ-loop
-entry c = start (clip-at (ends-at (c .before) .before) .before)
+entry c = start (smaller-at (ends-at (c .before) .before) .before)
 
 abbrev low-at : tie.After-widen2 Inv-loop μ-loop → tie.After-widen Inv-loop μ-loop
 low-at c = c .before .before
@@ -36,10 +36,10 @@ low-at c = c .before .before
 abbrev turn : tie.After-widen2 Inv-loop μ-loop → tie.In-loop Inv-loop μ-loop
 turn c = low-at c .before .before
 
-abbrev clip2-at : tie.After-sums-arg2 Inv-loop μ-loop → tie.After-clip2 Inv-loop μ-loop
-clip2-at c = c .before .before
+abbrev smaller2-at : tie.After-sums-arg2 Inv-loop μ-loop → tie.After-smaller2 Inv-loop μ-loop
+smaller2-at c = c .before .before
 
-abbrev high-at : tie.After-clip2 Inv-loop μ-loop → tie.After-widen2 Inv-loop μ-loop
+abbrev high-at : tie.After-smaller2 Inv-loop μ-loop → tie.After-widen2 Inv-loop μ-loop
 high-at c = c .before .before
 
 abbrev sums-at : tie.After-slice-known6 Inv-loop μ-loop → tie.After-sums Inv-loop μ-loop
@@ -60,8 +60,8 @@ small : (c : tie.Start Inv-loop μ-loop) → Small (c .args .m) (c .args .reach)
 small c = run-small (run c)
 
 -- the last slot's row
-short : (c : tie.After-clip Inv-loop μ-loop) → c .clip .result ≤ start (c .before) .args .w .places
-short c = omega (arith, c .clip .ensures)
+short : (c : tie.After-smaller Inv-loop μ-loop) → c .smaller .result ≤ start (c .before) .args .w .places
+short c = omega (arith, c .smaller .ensures)
 
 -- the row that a turn begins with, for any pattern and view
 abbrev row : (c : tie.In-loop Inv-loop μ-loop) (g : RunAt (entry (c .before))) → Counting (runPattern g) (runView g) (entry (c .before) .args .w)
@@ -91,11 +91,11 @@ back c =
 sub-j : tie.Need-sub-j Inv-loop μ-loop
 sub-j c = let s = small (c .before .before .before .before .before) in omega arith
 
-add-clip : tie.Need-add-clip Inv-loop μ-loop
-add-clip c = let s = small (start c) in omega arith
+add-smaller : tie.Need-add-smaller Inv-loop μ-loop
+add-smaller c = let s = small (start c) in omega arith
 
-clip-requires : tie.Need-clip-requires Inv-loop μ-loop
-clip-requires c κs = search needs
+smaller-requires : tie.Need-smaller-requires Inv-loop μ-loop
+smaller-requires c κs = search needs
 
 mul-ends : tie.Need-mul-ends Inv-loop μ-loop
 mul-ends c = let s = small (start (c .before)) in omega arith
@@ -105,7 +105,7 @@ add-ends c = let s = small (start (c .before)) in omega arith
 
 ends-requires : tie.Need-ends-requires Inv-loop μ-loop
 ends-requires c κs =
-    let k = clip-at c in
+    let k = smaller-at c in
     let b = start (k .before) in
     let s = small b in
     let n = short k in
@@ -115,8 +115,8 @@ loop-holds : tie.Need-loop-holds Inv-loop μ-loop
 loop-holds c = (
   refl,
   refl,
-  λ g. let e = ends-at c in let k = clip-at (e .before) in let h = g .plan .handed in let kept = e .ends .kept .1 .1 .1 .1 .1 in
-      counting-begin _ (h .input .pattern .some) (h .farthest) (k .clip .ensures) (h .table) (g .inside) (room-less (start (k .before) .pre .1) (omega arith) (kept .0) (kept .1 .0)) (e .ends .ensures),
+  λ g. let e = ends-at c in let k = smaller-at (e .before) in let h = g .plan .handed in let kept = e .ends .kept .1 .1 .1 .1 .1 in
+      counting-begin _ (h .input .pattern .some) (h .farthest) (k .smaller .ensures) (h .table) (g .inside) (room-less (start (k .before) .pre .1) (omega arith) (kept .0) (kept .1 .0)) (e .ends .ensures),
 )
 
 mul-widen : tie.Need-mul-widen Inv-loop μ-loop
@@ -160,15 +160,15 @@ sub-r c = back c .0
 sub-r-2 : tie.Need-sub-r-2 Inv-loop μ-loop
 sub-r-2 c = back c .1
 
-add-clip-2 : tie.Need-add-clip-2 Inv-loop μ-loop
-add-clip-2 c = let h = c .before in let b = back h in let s = small (entry (turn h .before)) in let z = near h in omega arith
+add-smaller-2 : tie.Need-add-smaller-2 Inv-loop μ-loop
+add-smaller-2 c = let h = c .before in let b = back h in let s = small (entry (turn h .before)) in let z = near h in omega arith
 
-clip-requires-2 : tie.Need-clip-requires-2 Inv-loop μ-loop
-clip-requires-2 c κs = search needs
+smaller-requires-2 : tie.Need-smaller-requires-2 Inv-loop μ-loop
+smaller-requires-2 c κs = search needs
 
 sums-requires : tie.Need-sums-requires Inv-loop μ-loop
 sums-requires c κs =
-    let h = high-at (clip2-at c) in
+    let h = high-at (smaller2-at c) in
     let b = entry (turn h .before) in
     let g = run b in
     let r = row (turn h) g in
@@ -177,14 +177,14 @@ sums-requires c κs =
 
 mul-spread : tie.Need-mul-spread Inv-loop μ-loop
 mul-spread c =
-    let h = high-at (clip2-at (sums-at c .before)) in
+    let h = high-at (smaller2-at (sums-at c .before)) in
     let s = small (entry (turn h .before)) in
     let i = inside h (run (entry (turn h .before))) in
     omega arith
 
 add-spread : tie.Need-add-spread Inv-loop μ-loop
 add-spread c =
-    let h = high-at (clip2-at (sums-at c .before)) in
+    let h = high-at (smaller2-at (sums-at c .before)) in
     let s = small (entry (turn h .before)) in
     let i = inside h (run (entry (turn h .before))) in
     omega arith
@@ -192,7 +192,7 @@ add-spread c =
 spread-requires : tie.Need-spread-requires Inv-loop μ-loop
 spread-requires c κs =
     let u = sums-at (c .before .before) in
-    let k = clip2-at (u .before) in
+    let k = smaller2-at (u .before) in
     let h = high-at k in
     let b = entry (turn h .before) in
     let g = run b in
@@ -201,7 +201,7 @@ spread-requires c κs =
     let s = small b in
     let i = inside h g in
     let pos = turn h .loop-test .taken in
-    let less = size-less (r .here) pos (high h g) (k .clip2 .ensures) in
+    let less = size-less (r .here) pos (high h g) (k .smaller2 .ensures) in
     let gap = run-gap g i (low-at h .widen .ensures .0) (h .widen2 .ensures .0) in
     (room-less (counting-room r ok (g .inside)) (omega arith) (u .sums .kept .1 .0) (u .sums .kept .1 .1 .0), (counting-falling r ok (g .inside) (u .sums .ensures), (omega arith, gap .0, omega arith, less .0, omega arith)))
 
@@ -212,7 +212,7 @@ loop-again : tie.Need-loop-again Inv-loop μ-loop
 loop-again c =
     let p = spread-at c in
     let u = sums-at (p .before .before .before) in
-    let k = clip2-at (u .before) in
+    let k = smaller2-at (u .before) in
     let h = high-at k in
     let l = turn h .before .loop in
     let kept = p .spread .kept .1 .1 .1 .1 .1 .1 in
@@ -220,7 +220,7 @@ loop-again c =
     let lo = kept .1 .0 ∙ u .sums .kept .1 .1 .0 in (
       hi ∙ l .inv .0,
       lo ∙ l .inv .1,
-      λ g. counting-more (row (turn h) g) (g .plan .handed .input) (g .inside) (u .sums .ensures) (turn h .loop-test .taken) (low h g) (high h g) (k .clip2 .ensures) (g .plan .handed .table)
+      λ g. counting-more (row (turn h) g) (g .plan .handed .input) (g .inside) (u .sums .ensures) (turn h .loop-test .taken) (low h g) (high h g) (k .smaller2 .ensures) (g .plan .handed .table)
           hi lo (p .spread .ensures),
     )
 
@@ -240,8 +240,8 @@ ways-spec =
     Inv-loop
     μ-loop
     sub-j
-    add-clip
-    clip-requires
+    add-smaller
+    smaller-requires
     mul-ends
     add-ends
     ends-requires
@@ -255,8 +255,8 @@ ways-spec =
     sub-j-2
     sub-r
     sub-r-2
-    add-clip-2
-    clip-requires-2
+    add-smaller-2
+    smaller-requires-2
     sums-requires
     mul-spread
     add-spread

@@ -35,10 +35,10 @@ put-row-requires : tie.Need-put-row-requires
 put-row-requires c κs = search needs
 
 same-length : tie.Need-same-length
-same-length c = let b = begin c in slot-size (numbers-at c .numbers .ensures) (b .args .at) (b .args .layout .now) (b .pre) (put-at c .put-row .ensures)
+same-length c = let b = begin c in slot-size (numbers-at c .numbers .ensures) (b .args .at) (b .args .layout .now) (b .pre) (put-at c .put-row .ensures .1)
 
 returns : tie.Need-returns
-returns c = let b = begin c in slot-laid (numbers-at c .numbers .ensures) (b .args .at) (b .args .layout .now) (b .pre) (put-at c .put-row .ensures)
+returns c = let b = begin c in slot-laid (numbers-at c .numbers .ensures) (b .args .at) (b .args .layout .now) (b .pre) (put-at c .put-row .ensures .1)
 
 pub put-slot-spec : {M : Type 1} → statement M
 put-slot-spec =

@@ -38,14 +38,14 @@ sub-z c = search needs
 add-minus : tie.Need-add-minus Inv-loop μ-loop
 add-minus c = search needs
 
-mul-wide : tie.Need-mul-wide Inv-loop μ-loop
-mul-wide c = search needs
+mul-widen : tie.Need-mul-widen Inv-loop μ-loop
+mul-widen c = search needs
 
-slice-read-wide : tie.Need-slice-read-wide Inv-loop μ-loop
-slice-read-wide c = search needs
+slice-read-widen : tie.Need-slice-read-widen Inv-loop μ-loop
+slice-read-widen c = search needs
 
-wide-requires : tie.Need-wide-requires Inv-loop μ-loop
-wide-requires c κs = search needs
+widen-requires : tie.Need-widen-requires Inv-loop μ-loop
+widen-requires c κs = search needs
 
 minus-requires : tie.Need-minus-requires Inv-loop μ-loop
 minus-requires c κs = search needs
@@ -56,14 +56,14 @@ cast-x c = search needs
 add-minus-2 : tie.Need-add-minus-2 Inv-loop μ-loop
 add-minus-2 c = search needs
 
-mul-wide-2 : tie.Need-mul-wide-2 Inv-loop μ-loop
-mul-wide-2 c = search needs
+mul-widen-2 : tie.Need-mul-widen-2 Inv-loop μ-loop
+mul-widen-2 c = search needs
 
-slice-read-wide-2 : tie.Need-slice-read-wide-2 Inv-loop μ-loop
-slice-read-wide-2 c = search needs
+slice-read-widen-2 : tie.Need-slice-read-widen-2 Inv-loop μ-loop
+slice-read-widen-2 c = search needs
 
-wide-requires-2 : tie.Need-wide-requires-2 Inv-loop μ-loop
-wide-requires-2 c κs = search needs
+widen-requires-2 : tie.Need-widen-requires-2 Inv-loop μ-loop
+widen-requires-2 c κs = search needs
 
 minus-requires-2 : tie.Need-minus-requires-2 Inv-loop μ-loop
 minus-requires-2 c κs = search needs
@@ -93,8 +93,8 @@ loop-again : tie.Need-loop-again Inv-loop μ-loop
 loop-again c =
     let l = loop-at c in
     swapped-more (l .loop .inv) (start l .pre .inside) (test-at c .loop-test .taken)
-    (omega (arith, front-at c .minus .ensures, front-at c .before .wide .ensures .0))
-    (omega (arith, c .minus2 .ensures, c .before .wide2 .ensures .0))
+    (omega (arith, front-at c .minus .ensures, front-at c .before .widen .ensures .0))
+    (omega (arith, c .minus2 .ensures, c .before .widen2 .ensures .0))
 
 same-length : tie.Need-same-length Inv-loop μ-loop
 same-length c = c .before .loop .inv .long
@@ -111,15 +111,15 @@ turn-back-spec =
     loop-holds
     sub-z
     add-minus
-    mul-wide
-    slice-read-wide
-    wide-requires
+    mul-widen
+    slice-read-widen
+    widen-requires
     minus-requires
     cast-x
     add-minus-2
-    mul-wide-2
-    slice-read-wide-2
-    wide-requires-2
+    mul-widen-2
+    slice-read-widen-2
+    widen-requires-2
     minus-requires-2
     cast-y
     mul-list

@@ -8,7 +8,7 @@ use lib.Seq.{paste, length-paste}
 use borrow.Rule.Slice.PartMut.{putMid}
 use Rattle.pattern.specs.declared.Pattern.{Pattern}
 use Rattle.matching.specs.Occurrence.{View, at}
-use Rattle.matching.specs.Laws.Lending.{row-pasted}
+use Rattle.basics.specs.Laws.Lending.{row-pasted}
 use Rattle.matching.specs.Steps.Layout.{Plan}
 use Rattle.matching.specs.Steps.Listing.{Room}
 use Rattle.matching.specs.Steps.Settling.{Answered}
@@ -100,7 +100,7 @@ list-of c =
 
 pasted : (c : tie.After-put-row Inv-loop μ-loop)
     → list-of c ≡ paste (turn-at (found-at c .before) .loop .list) (next (turn-at (found-at c .before))) (row (found-at c .before)) (g (turn-at (found-at c .before)) .count)
-pasted c = row-pasted _ _ (omega (arith, room (found-at c))) (row (found-at c .before)) (c .put-row .last .0) _ (whole (found-at c)) (room (found-at c)) (c .put-row .ensures)
+pasted c = row-pasted _ _ (omega (arith, room (found-at c))) (row (found-at c .before)) (c .put-row .last .0) _ (whole (found-at c)) (room (found-at c)) (c .put-row .ensures .1)
 
 same-size : (c : tie.After-put-row Inv-loop μ-loop) → length (list-of c) ≡ length (turn-at (found-at c .before) .loop .list)
 same-size c = ap length (pasted c) ∙ length-paste _ _ _ _ (room (found-at c)) (whole (found-at c))

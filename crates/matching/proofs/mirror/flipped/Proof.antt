@@ -34,14 +34,14 @@ sub-i-2 c = search needs
 add-minus : tie.Need-add-minus Inv-loop μ-loop
 add-minus c = search needs
 
-mul-wide : tie.Need-mul-wide Inv-loop μ-loop
-mul-wide c = search needs
+mul-widen : tie.Need-mul-widen Inv-loop μ-loop
+mul-widen c = search needs
 
-array-read-wide : tie.Need-array-read-wide Inv-loop μ-loop
-array-read-wide c = search needs
+array-read-widen : tie.Need-array-read-widen Inv-loop μ-loop
+array-read-widen c = search needs
 
-wide-requires : tie.Need-wide-requires Inv-loop μ-loop
-wide-requires c κs = search needs
+widen-requires : tie.Need-widen-requires Inv-loop μ-loop
+widen-requires c κs = search needs
 
 minus-requires : tie.Need-minus-requires Inv-loop μ-loop
 minus-requires c κs = search needs
@@ -62,7 +62,7 @@ loop-less : tie.Need-loop-less Inv-loop μ-loop
 loop-less c = search needs
 
 loop-again : tie.Need-loop-again Inv-loop μ-loop
-loop-again c = flipping-more (loop-at c .loop .inv) (test-at c .loop-test .taken) (omega arith) (omega (arith, c .minus .ensures, c .before .wide .ensures .0))
+loop-again c = flipping-more (loop-at c .loop .inv) (test-at c .loop-test .taken) (omega arith) (omega (arith, c .minus .ensures, c .before .widen .ensures .0))
 
 returns : tie.Need-returns Inv-loop μ-loop
 returns c = flipping-end (c .before .loop .inv) (c .loop-test .left)
@@ -77,9 +77,9 @@ flipped-spec =
     sub-i
     sub-i-2
     add-minus
-    mul-wide
-    array-read-wide
-    wide-requires
+    mul-widen
+    array-read-widen
+    widen-requires
     minus-requires
     cast-p
     mul-p

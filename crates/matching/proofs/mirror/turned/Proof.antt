@@ -6,7 +6,7 @@ use lib.ListN.{length, getD}
 use borrow.Author.Count.{below-none}
 use borrow.Author.Needs.{needs}
 use Rattle.matching.proofs.Turning.{turned-slot}
-use Rattle.pattern.specs.Laws.Arrays.{set-more}
+use Rattle.basics.specs.Laws.Arrays.{set-more}
 use Rattle.matching.specs.Steps.Turning.{TurnedSlot}
 use Rattle.pattern.specs.Patterns.{noSlot}
 use Rattle.matching.proofs.mirror.turned.Statement.{statement}

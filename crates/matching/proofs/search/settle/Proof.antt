@@ -37,7 +37,7 @@ next-at c = c .before
 abbrev turn-at : tie.After-visit Inv-loop μ-loop → tie.After-next Inv-loop μ-loop
 turn-at c = next-at (c .before)
 
-abbrev visit-at : tie.After-wide Inv-loop μ-loop → tie.After-visit Inv-loop μ-loop
+abbrev visit-at : tie.After-widen Inv-loop μ-loop → tie.After-visit Inv-loop μ-loop
 visit-at c = c .before .before .before
 
 -- ---- what is known there: the pattern, the text as it is read, and what the visits so far come to
@@ -63,7 +63,7 @@ same-size : (c : tie.At-loop Inv-loop μ-loop) → length (c .loop .p) ≡ lengt
 same-size c = calm c .rising .size ∙ sym (given c .size)
 
 -- the place that the visit found is in the text
-in-text : (c : tie.After-wide Inv-loop μ-loop) → visit-at c .visit .result ≤ length (start (loop-at (turn-at (visit-at c))) .args .text .now)
+in-text : (c : tie.After-widen Inv-loop μ-loop) → visit-at c .visit .result ≤ length (start (loop-at (turn-at (visit-at c))) .args .text .now)
 in-text c = omega (arith, c .before .before .if1 .left)
 
 -- ----
@@ -88,14 +88,14 @@ returns c = λ w.
     let s = loop-at (turn-at (c .before)) .loop .inv w in
     unsettled refl (none (s .rising) (c .before .visit .ensures w) (s .slot) (omega (arith, c .if1 .taken)))
 
-mul-wide : tie.Need-mul-wide Inv-loop μ-loop
-mul-wide c = omega (arith, inside (loop-at (turn-at (c .before))))
+mul-widen : tie.Need-mul-widen Inv-loop μ-loop
+mul-widen c = omega (arith, inside (loop-at (turn-at (c .before))))
 
-slice-read-wide : tie.Need-slice-read-wide Inv-loop μ-loop
-slice-read-wide c = omega (arith, inside (loop-at (turn-at (c .before .before))))
+slice-read-widen : tie.Need-slice-read-widen Inv-loop μ-loop
+slice-read-widen c = omega (arith, inside (loop-at (turn-at (c .before .before))))
 
-wide-requires : tie.Need-wide-requires Inv-loop μ-loop
-wide-requires c κs = search needs
+widen-requires : tie.Need-widen-requires Inv-loop μ-loop
+widen-requires c κs = search needs
 
 add-calm : tie.Need-add-calm Inv-loop μ-loop
 add-calm c =
@@ -109,7 +109,7 @@ loop-again : tie.Need-loop-again Inv-loop μ-loop
 loop-again c = λ w.
     let b = visit-at (c .before) in
     let d = turn-at b in
-    let same = c .if2 .taken ∙ c .before .wide .ensures .0 in
+    let same = c .if2 .taken ∙ c .before .widen .ensures .0 in
     calm-same (loop-at d .loop .inv w) (d .next .ensures) (b .visit .ensures w) (in-text (c .before)) (test-at d .loop-test .taken) same
 
 cast-p : tie.Need-cast-p Inv-loop μ-loop
@@ -127,7 +127,7 @@ loop-less-2 c =
     let d = turn-at b in
     let w = given (loop-at d) .plan in
     let s = calm (loop-at d) in
-    let raised = less (s .rising) (b .visit .ensures w) (s .slot) (w .ready) (in-text (c .before)) (λ e. c .if2 .left (e ∙ sym (c .before .wide .ensures .0))) in
+    let raised = less (s .rising) (b .visit .ensures w) (s .slot) (w .ready) (in-text (c .before)) (λ e. c .if2 .left (e ∙ sym (c .before .widen .ensures .0))) in
     omega (arith, w .ready .few, test-at d .loop-test .taken, raised)
 
 loop-again-2 : tie.Need-loop-again-2 Inv-loop μ-loop
@@ -155,9 +155,9 @@ settle-spec =
     visit-requires
     same-length
     returns
-    mul-wide
-    slice-read-wide
-    wide-requires
+    mul-widen
+    slice-read-widen
+    widen-requires
     add-calm
     loop-less
     loop-again

@@ -18,10 +18,10 @@ abbrev μ-loop : tie.MeasureT-loop
 abbrev start : tie.At-loop Inv-loop μ-loop → tie.Start Inv-loop μ-loop
 start c = c .before .before
 
-abbrev test-at : tie.After-wide Inv-loop μ-loop → tie.In-loop Inv-loop μ-loop
+abbrev test-at : tie.After-widen Inv-loop μ-loop → tie.In-loop Inv-loop μ-loop
 test-at c = c .before .before
 
-abbrev loop-at : tie.After-wide Inv-loop μ-loop → tie.At-loop Inv-loop μ-loop
+abbrev loop-at : tie.After-widen Inv-loop μ-loop → tie.At-loop Inv-loop μ-loop
 loop-at c = test-at c .before
 
 -- ----
@@ -35,8 +35,8 @@ mul-x c = search needs
 slice-read-x : tie.Need-slice-read-x Inv-loop μ-loop
 slice-read-x c = search needs
 
-wide-requires : tie.Need-wide-requires Inv-loop μ-loop
-wide-requires c κs = search needs
+widen-requires : tie.Need-widen-requires Inv-loop μ-loop
+widen-requires c κs = search needs
 
 same-length : tie.Need-same-length Inv-loop μ-loop
 same-length c = search needs
@@ -44,10 +44,10 @@ same-length c = search needs
 returns : tie.Need-returns Inv-loop μ-loop
 returns c =
     let b = c .before in
-    started-none (loop-at b .loop .inv) (test-at b .loop-test .taken) (omega (arith, c .if1 .taken, b .wide .ensures .0)) refl
+    started-none (loop-at b .loop .inv) (test-at b .loop-test .taken) (omega (arith, c .if1 .taken, b .widen .ensures .0)) refl
 
 add-p : tie.Need-add-p Inv-loop μ-loop
-add-p c = omega (arith, c .if1 .left, c .before .wide .ensures)
+add-p c = omega (arith, c .if1 .left, c .before .widen .ensures)
 
 mul-p : tie.Need-mul-p Inv-loop μ-loop
 mul-p c = search needs
@@ -81,7 +81,7 @@ start-spec =
     loop-holds
     mul-x
     slice-read-x
-    wide-requires
+    widen-requires
     same-length
     returns
     add-p

@@ -13,25 +13,25 @@ use Rattle.matching.proofs.search.visit.Tie as tie
 abbrev need-at : tie.After-first → tie.After-need
 need-at c = c .before .before
 
-abbrev most-at : tie.After-first → tie.After-wide7
+abbrev most-at : tie.After-first → tie.After-widen7
 most-at c = need-at c .before
 
-abbrev least-at : tie.After-first → tie.After-wide6
+abbrev least-at : tie.After-first → tie.After-widen6
 least-at c = most-at c .before
 
-abbrev high-at : tie.After-first → tie.After-wide5
+abbrev high-at : tie.After-first → tie.After-widen5
 high-at c = least-at c .before
 
-abbrev low-at : tie.After-first → tie.After-wide4
+abbrev low-at : tie.After-first → tie.After-widen4
 low-at c = high-at c .before .before
 
-abbrev ahead-at : tie.After-first → tie.After-wide3
+abbrev ahead-at : tie.After-first → tie.After-widen3
 ahead-at c = low-at c .before .before
 
-abbrev behind-at : tie.After-first → tie.After-wide2
+abbrev behind-at : tie.After-first → tie.After-widen2
 behind-at c = ahead-at c .before .before
 
-abbrev own-at : tie.After-first → tie.After-wide
+abbrev own-at : tie.After-first → tie.After-widen
 own-at c = behind-at c .before .before
 
 abbrev next-at : tie.After-first → tie.After-next
@@ -57,59 +57,59 @@ mul-at c = search needs
 mul-after : tie.Need-mul-after
 mul-after c = search needs
 
-mul-wide : tie.Need-mul-wide
-mul-wide c = search needs
+mul-widen : tie.Need-mul-widen
+mul-widen c = search needs
 
-shared-slice-read-wide : tie.Need-shared-slice-read-wide
-shared-slice-read-wide c = search needs
+shared-slice-read-widen : tie.Need-shared-slice-read-widen
+shared-slice-read-widen c = search needs
 
-wide-requires : tie.Need-wide-requires
-wide-requires c κs = search needs
+widen-requires : tie.Need-widen-requires
+widen-requires c κs = search needs
 
-mul-wide-2 : tie.Need-mul-wide-2
-mul-wide-2 c = search needs
+mul-widen-2 : tie.Need-mul-widen-2
+mul-widen-2 c = search needs
 
-shared-slice-read-wide-2 : tie.Need-shared-slice-read-wide-2
-shared-slice-read-wide-2 c = search needs
+shared-slice-read-widen-2 : tie.Need-shared-slice-read-widen-2
+shared-slice-read-widen-2 c = search needs
 
-wide-requires-2 : tie.Need-wide-requires-2
-wide-requires-2 c κs = search needs
+widen-requires-2 : tie.Need-widen-requires-2
+widen-requires-2 c κs = search needs
 
-mul-wide-3 : tie.Need-mul-wide-3
-mul-wide-3 c = search needs
+mul-widen-3 : tie.Need-mul-widen-3
+mul-widen-3 c = search needs
 
-shared-slice-read-wide-3 : tie.Need-shared-slice-read-wide-3
-shared-slice-read-wide-3 c = search needs
+shared-slice-read-widen-3 : tie.Need-shared-slice-read-widen-3
+shared-slice-read-widen-3 c = search needs
 
-wide-requires-3 : tie.Need-wide-requires-3
-wide-requires-3 c κs = search needs
+widen-requires-3 : tie.Need-widen-requires-3
+widen-requires-3 c κs = search needs
 
-mul-wide-4 : tie.Need-mul-wide-4
-mul-wide-4 c = search needs
+mul-widen-4 : tie.Need-mul-widen-4
+mul-widen-4 c = search needs
 
-shared-slice-read-wide-4 : tie.Need-shared-slice-read-wide-4
-shared-slice-read-wide-4 c = search needs
+shared-slice-read-widen-4 : tie.Need-shared-slice-read-widen-4
+shared-slice-read-widen-4 c = search needs
 
-wide-requires-4 : tie.Need-wide-requires-4
-wide-requires-4 c κs = search needs
+widen-requires-4 : tie.Need-widen-requires-4
+widen-requires-4 c κs = search needs
 
-add-wide : tie.Need-add-wide
-add-wide c = search needs
+add-widen : tie.Need-add-widen
+add-widen c = search needs
 
-mul-wide-5 : tie.Need-mul-wide-5
-mul-wide-5 c = search needs
+mul-widen-5 : tie.Need-mul-widen-5
+mul-widen-5 c = search needs
 
-shared-slice-read-wide-5 : tie.Need-shared-slice-read-wide-5
-shared-slice-read-wide-5 c = search needs
+shared-slice-read-widen-5 : tie.Need-shared-slice-read-widen-5
+shared-slice-read-widen-5 c = search needs
 
-wide-requires-5 : tie.Need-wide-requires-5
-wide-requires-5 c κs = search needs
+widen-requires-5 : tie.Need-widen-requires-5
+widen-requires-5 c κs = search needs
 
-wide-requires-6 : tie.Need-wide-requires-6
-wide-requires-6 c κs = search needs
+widen-requires-6 : tie.Need-widen-requires-6
+widen-requires-6 c κs = search needs
 
-wide-requires-7 : tie.Need-wide-requires-7
-wide-requires-7 c κs = search needs
+widen-requires-7 : tie.Need-widen-requires-7
+widen-requires-7 c κs = search needs
 
 need-requires : tie.Need-need-requires
 need-requires c κs = search needs
@@ -139,13 +139,13 @@ returns c = λ w.
     let k = next-at c .next .ensures .inside in
     let eleven : 11 * a .j + 11 - 11 * a .j ≡ 11 = omega arith in
     visited (prior-at c .prior .ensures) (next-at c .next .ensures)
-    (own-at c .wide .ensures .0)
-    (behind-at c .wide2 .ensures .0)
-    (ahead-at c .wide3 .ensures .0)
-    (low-at c .wide4 .ensures .0 ∙ laid-low s)
-    (high-at c .wide5 .ensures .0 ∙ laid-high (w .laid .slot _ k))
-    (least-at c .wide6 .ensures .0)
-    (most-at c .wide7 .ensures .0)
+    (own-at c .widen .ensures .0)
+    (behind-at c .widen2 .ensures .0)
+    (ahead-at c .widen3 .ensures .0)
+    (low-at c .widen4 .ensures .0 ∙ laid-low s)
+    (high-at c .widen5 .ensures .0 ∙ laid-high (w .laid .slot _ k))
+    (least-at c .widen6 .ensures .0)
+    (most-at c .widen7 .ensures .0)
     (need-at c .need .ensures)
     (c .first .ensures _ (laid-numbers s eleven))
 
@@ -157,24 +157,24 @@ visit-spec =
     next-requires
     mul-at
     mul-after
-    mul-wide
-    shared-slice-read-wide
-    wide-requires
-    mul-wide-2
-    shared-slice-read-wide-2
-    wide-requires-2
-    mul-wide-3
-    shared-slice-read-wide-3
-    wide-requires-3
-    mul-wide-4
-    shared-slice-read-wide-4
-    wide-requires-4
-    add-wide
-    mul-wide-5
-    shared-slice-read-wide-5
-    wide-requires-5
-    wide-requires-6
-    wide-requires-7
+    mul-widen
+    shared-slice-read-widen
+    widen-requires
+    mul-widen-2
+    shared-slice-read-widen-2
+    widen-requires-2
+    mul-widen-3
+    shared-slice-read-widen-3
+    widen-requires-3
+    mul-widen-4
+    shared-slice-read-widen-4
+    widen-requires-4
+    add-widen
+    mul-widen-5
+    shared-slice-read-widen-5
+    widen-requires-5
+    widen-requires-6
+    widen-requires-7
     need-requires
     add-first
     mul-first

@@ -4,7 +4,7 @@ use Prim.Native.Nat.{ℕ, _≤_, _<_, _-_}
 use mathlib.Core.Path.{_≡_, refl}
 use lib.ListN.{length}
 use borrow.Author.Count.{below-none}
-use Rattle.pattern.specs.Laws.Arrays.{zeros-at, set-more, set-rest}
+use Rattle.basics.specs.Laws.Arrays.{zeros-at, set-more, set-rest}
 use Rattle.matching.specs.Occurrence.{at}
 use Rattle.matching.proofs.Answering.{copied}
 use borrow.Author.Needs.{needs}

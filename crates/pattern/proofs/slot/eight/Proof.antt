@@ -5,7 +5,7 @@ use mathlib.Core.Path.{_≡_, _∙_, ap}
 use mathlib.Core.List.{List}
 use lib.ListN.{getD, set, replicate}
 use lib.Seq.{paste}
-use Rattle.pattern.specs.Laws.Arrays.{pasted-more}
+use Rattle.basics.specs.Laws.Arrays.{pasted-more}
 use Rattle.pattern.proofs.Arrays.{pasted-all}
 use borrow.Author.Needs.{needs}
 use Rattle.pattern.proofs.slot.eight.Statement.{statement}

@@ -6,11 +6,11 @@ use borrow.Author.Needs.{needs}
 use Rattle.report.proofs.lines.put_refusal.Statement.{statement}
 use Rattle.report.proofs.lines.put_refusal.Tie as tie
 
-slice-aggregate-put-all : tie.Need-slice-aggregate-put-all
-slice-aggregate-put-all c = search needs
+slice-aggregate-put-bytes : tie.Need-slice-aggregate-put-bytes
+slice-aggregate-put-bytes c = search needs
 
-put-all-requires : tie.Need-put-all-requires
-put-all-requires c κs = search needs
+put-bytes-requires : tie.Need-put-bytes-requires
+put-bytes-requires c κs = search needs
 
 number-requires : tie.Need-number-requires
 number-requires c κs = search needs
@@ -28,14 +28,14 @@ same-length : tie.Need-same-length
 same-length c = search needs
 
 returns : tie.Need-returns
-returns c = rw (← c .before .before .before .before .number .ensures, ← c .before .before .before .place .ensures) (writes-line refusalNames (values (c .before .before .before .before .number .result ∷ c .before .before .before .place .result ∷ []) ∷ []) (c .before .before .before .before .before .before .before .before .put-all .ensures) (c .before .before .put-pair .ensures))
+returns c = rw (← c .before .before .before .before .number .ensures, ← c .before .before .before .place .ensures) (writes-line refusalNames (values (c .before .before .before .before .number .result ∷ c .before .before .before .place .result ∷ []) ∷ []) (c .before .before .before .before .before .before .before .before .put-bytes .ensures) (c .before .before .put-pair .ensures))
 
 pub put-refusal-spec : {M : Type 1} → statement M
 put-refusal-spec =
     tie.close
     (tie.spec
-    slice-aggregate-put-all
-    put-all-requires
+    slice-aggregate-put-bytes
+    put-bytes-requires
     number-requires
     cast-put-pair
     place-requires

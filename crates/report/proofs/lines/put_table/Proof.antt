@@ -6,8 +6,8 @@ use mathlib.Core.Path.{_≡_, refl, _∙_, ap}
 use lib.ListN.{length}
 use Rattle.format.specs.Shown.{closed}
 use Rattle.report.specs.Lines.{entryLines}
-use Rattle.report.specs.Writing.{Writes}
-use Rattle.report.specs.Laws.Writing.{writes-same}
+use Rattle.basics.specs.Writing.{Writes}
+use Rattle.basics.specs.Laws.Writing.{writes-same}
 use Rattle.report.proofs.Writers.{writes-entries, writes-entry}
 use borrow.Author.Needs.{needs}
 use Rattle.report.proofs.lines.put_table.Statement.{statement}
@@ -34,23 +34,23 @@ rem-put-entry c = search needs
 add-put-entry-2 : tie.Need-add-put-entry-2 Inv-loop μ-loop
 add-put-entry-2 c = omega (arith, mod-le (c .before .before .loop .e) (c .before .before .before .before .before .before .args .m))
 
-mul-wide : tie.Need-mul-wide Inv-loop μ-loop
-mul-wide c = search needs
+mul-widen : tie.Need-mul-widen Inv-loop μ-loop
+mul-widen c = search needs
 
-shared-slice-read-wide : tie.Need-shared-slice-read-wide Inv-loop μ-loop
-shared-slice-read-wide c = search needs
+shared-slice-read-widen : tie.Need-shared-slice-read-widen Inv-loop μ-loop
+shared-slice-read-widen c = search needs
 
-wide-requires : tie.Need-wide-requires Inv-loop μ-loop
-wide-requires c κs = search needs
+widen-requires : tie.Need-widen-requires Inv-loop μ-loop
+widen-requires c κs = search needs
 
-mul-wide-2 : tie.Need-mul-wide-2 Inv-loop μ-loop
-mul-wide-2 c = search needs
+mul-widen-2 : tie.Need-mul-widen-2 Inv-loop μ-loop
+mul-widen-2 c = search needs
 
-shared-slice-read-wide-2 : tie.Need-shared-slice-read-wide-2 Inv-loop μ-loop
-shared-slice-read-wide-2 c = search needs
+shared-slice-read-widen-2 : tie.Need-shared-slice-read-widen-2 Inv-loop μ-loop
+shared-slice-read-widen-2 c = search needs
 
-wide-requires-2 : tie.Need-wide-requires-2 Inv-loop μ-loop
-wide-requires-2 c κs = search needs
+widen-requires-2 : tie.Need-widen-requires-2 Inv-loop μ-loop
+widen-requires-2 c κs = search needs
 
 put-entry-requires : tie.Need-put-entry-requires Inv-loop μ-loop
 put-entry-requires c κs = search needs
@@ -62,7 +62,7 @@ loop-less : tie.Need-loop-less Inv-loop μ-loop
 loop-less c = search needs
 
 loop-again : tie.Need-loop-again Inv-loop μ-loop
-loop-again c = (search needs, c .before .before .put-entry .kept .0 ∙ c .before .before .before .before .before .before .before .before .before .loop .inv .1, let a = c .before .before .before .before .before .before .before .before .before .before .before .before .before .args in writes-entry (a .m) (a .front .now) (a .back .now) (c .before .before .before .before .before .before .before .before .before .loop .e) (c .before .before .before .before .before .before .before .before .before .loop .inv .2) (rw (← c .before .before .before .before .before .wide .ensures, ← c .before .before .before .wide2 .ensures) (c .before .before .put-entry .ensures)))
+loop-again c = (search needs, c .before .before .put-entry .kept .0 ∙ c .before .before .before .before .before .before .before .before .before .loop .inv .1, let a = c .before .before .before .before .before .before .before .before .before .before .before .before .before .args in writes-entry (a .m) (a .front .now) (a .back .now) (c .before .before .before .before .before .before .before .before .before .loop .e) (c .before .before .before .before .before .before .before .before .before .loop .inv .2) (rw (← c .before .before .before .before .before .widen .ensures .0, ← c .before .before .before .widen2 .ensures .0) (c .before .before .put-entry .ensures)))
 
 same-length : tie.Need-same-length Inv-loop μ-loop
 same-length c = c .before .loop .inv .1
@@ -84,12 +84,12 @@ put-table-spec =
     add-put-entry
     rem-put-entry
     add-put-entry-2
-    mul-wide
-    shared-slice-read-wide
-    wide-requires
-    mul-wide-2
-    shared-slice-read-wide-2
-    wide-requires-2
+    mul-widen
+    shared-slice-read-widen
+    widen-requires
+    mul-widen-2
+    shared-slice-read-widen-2
+    widen-requires-2
     put-entry-requires
     add-e
     loop-less

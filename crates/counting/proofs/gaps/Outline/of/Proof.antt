@@ -19,7 +19,7 @@ start c = bounds-at c .before .before
 abbrev low-at : tie.After-distance2 → tie.After-distance
 low-at c = c .before .before
 
-abbrev high-at : tie.After-clip → tie.After-distance2
+abbrev high-at : tie.After-smaller → tie.After-distance2
 high-at c = c .before .before .before
 
 -- ---- what is known there
@@ -66,11 +66,11 @@ widen-requires c κs = search needs
 widen-requires-2 : tie.Need-widen-requires-2
 widen-requires-2 c κs = search needs
 
-add-clip : tie.Need-add-clip
-add-clip c = let h = few (c .before .before) in omega arith
+add-smaller : tie.Need-add-smaller
+add-smaller c = let h = few (c .before .before) in omega arith
 
-clip-requires : tie.Need-clip-requires
-clip-requires c κs = search needs
+smaller-requires : tie.Need-smaller-requires
+smaller-requires c κs = search needs
 
 unbound-requires : tie.Need-unbound-requires
 unbound-requires c κs = let d = low-at (high-at c) in let ok = start d .pre in let some = ok .some in
@@ -82,7 +82,7 @@ returns c = let k = c .before in let h = high-at k in let d = low-at h in let f 
   lows = bounds-at d .before .bounds .ensures;
   highs = bounds-at d .bounds2 .ensures;
   farthest = most h;
-  widest = omega (arith, k .clip .ensures, k .before .widen2 .ensures .0, most h);
+  widest = omega (arith, k .smaller .ensures, k .before .widen2 .ensures .0, most h);
   shortest = k .before .before .widen .ensures .0;
   spans = unbound-is f _ (k .before .before .widen .ensures .0) (k .before .widen2 .ensures .0) (least d) (most h) (c .unbound .ensures);
 }
@@ -99,7 +99,7 @@ of-spec =
     distance-requires-2
     widen-requires
     widen-requires-2
-    add-clip
-    clip-requires
+    add-smaller
+    smaller-requires
     unbound-requires
     returns)

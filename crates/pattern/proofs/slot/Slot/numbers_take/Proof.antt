@@ -5,7 +5,7 @@ use borrow.Author.Needs.{needs}
 use Rattle.pattern.proofs.slot.Slot.numbers_take.Statement.{statement}
 use Rattle.pattern.proofs.slot.Slot.numbers_take.Tie as tie
 
-abbrev else-at : tie.After-wide → tie.Else1
+abbrev else-at : tie.After-widen → tie.Else1
 else-at c = c .before .before .before
 
 returns : tie.Need-returns
@@ -21,18 +21,18 @@ part-lists-start c = search needs
 part-lists-end : tie.Need-part-lists-end
 part-lists-end c = search needs
 
-shared-slice-read-wide : tie.Need-shared-slice-read-wide
-shared-slice-read-wide c = search needs
+shared-slice-read-widen : tie.Need-shared-slice-read-widen
+shared-slice-read-widen c = search needs
 
-wide-requires : tie.Need-wide-requires
-wide-requires c κs = search needs
+widen-requires : tie.Need-widen-requires
+widen-requires c κs = search needs
 
 lists-requires : tie.Need-lists-requires
 lists-requires c κs = search needs
 
 returns-2 : tie.Need-returns-2
 unfolding numbersTake
-returns-2 c = simp (le-ltb _ _ (else-at (c .before) .if1 .left), ← c .before .wide .ensures .0, c .lists .ensures)
+returns-2 c = simp (le-ltb _ _ (else-at (c .before) .if1 .left), ← c .before .widen .ensures .0, c .lists .ensures)
 
 pub numbers-take-spec : {M : Type 1} → statement M
 numbers-take-spec =
@@ -42,7 +42,7 @@ numbers-take-spec =
     sub-lists
     part-lists-start
     part-lists-end
-    shared-slice-read-wide
-    wide-requires
+    shared-slice-read-widen
+    widen-requires
     lists-requires
     returns-2)

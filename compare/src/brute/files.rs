@@ -1,0 +1,162 @@
+//! Pattern files and text files, read by splitting them into strings.
+
+use super::limits::{pattern_of, push_slot, test_slot, test_slot_count, test_span, test_text};
+use super::refusal::{answer, refuse, Refusal};
+use crate::layout::{Answer, Made, Pattern, ReadBoth};
+
+/// Refuses files of more than 60,000 bytes.
+pub fn test_bytes(bytes: usize) -> Result<(), Refusal> {
+    if bytes > 60_000 {
+        return refuse(12, 0);
+    }
+    Ok(())
+}
+
+/// The pattern in a pattern file.
+pub fn read_pattern(bytes: &[u8]) -> Result<Pattern, Refusal> {
+    test_bytes(bytes.len())?;
+    let file = letters(bytes);
+    let lines = lines(&file);
+    let span_names = names(&lines, 1, &["least", "most"])?;
+    let span = values(&lines, 2, &span_names)?;
+    let slot_names = names(&lines, 3, &["low", "high", "words"])?;
+    let mut slots = Vec::new();
+    for line in 4..=lines.len() {
+        slots.push(values(&lines, line, &slot_names)?);
+    }
+
+    test_slot_count(slots.len())?;
+    let mut pattern = pattern_of(span.of("least")[0], span.of("most")[0]);
+    for (index, slot) in slots.iter().enumerate() {
+        let (low, high) = (slot.of("low")[0], slot.of("high")[0]);
+        test_slot(index + 1, Some(slot.of("words")), low, high)?;
+        push_slot(&mut pattern, low, high, slot.of("words"));
+    }
+    test_span(pattern.least, pattern.most)?;
+    Ok(pattern)
+}
+
+/// The words in a text file, which must not be more than there is room for.
+pub fn read_text(bytes: &[u8], room: usize) -> Result<Vec<u16>, Refusal> {
+    test_bytes(bytes.len())?;
+    if bytes.is_empty() {
+        return Ok(Vec::new());
+    }
+    let file = letters(bytes);
+    let lines = lines(&file);
+    let names = names(&lines, 1, &["word"])?;
+    let mut words = Vec::new();
+    for line in 2..=lines.len() {
+        words.push(values(&lines, line, &names)?.of("word")[0]);
+    }
+
+    test_text(words.len())?;
+    if words.len() > room {
+        return refuse(13, 0);
+    }
+    Ok(words)
+}
+
+/// The pattern and the words in two files that come in one call, the words not more than there is room for.
+pub fn read_both(pattern: &[u8], text: &[u8], room: usize) -> Result<(Pattern, Vec<u16>), Refusal> {
+    test_bytes(pattern.len())?;
+    test_bytes(text.len())?;
+    Ok((read_pattern(pattern)?, read_text(text, room)?))
+}
+
+/// The pattern in a pattern file, or beside a refusal a new pattern.
+pub fn made_from_file(bytes: &[u8]) -> Made {
+    match read_pattern(bytes) {
+        Ok(pattern) => Made { number: 0, place: 0, pattern },
+        Err(refusal) => Made { number: refusal.number, place: refusal.place, pattern: pattern_of(1, 20_000) },
+    }
+}
+
+/// Writes the words in a text file to the start of `words`.
+pub fn words_from_file(bytes: &[u8], words: &mut [u16]) -> Answer {
+    let read = read_text(bytes, words.len());
+    if let Ok(read) = &read {
+        words[..read.len()].copy_from_slice(read);
+    }
+    answer(read.map(|read| read.len() as u64))
+}
+
+/// The pattern in a pattern file, the words in a text file written to the start of `words`; beside a refusal a new
+/// pattern, no words, and nothing written.
+pub fn both_from_files(pattern: &[u8], text: &[u8], words: &mut [u16]) -> ReadBoth {
+    match read_both(pattern, text, words.len()) {
+        Ok((pattern, read)) => {
+            words[..read.len()].copy_from_slice(&read);
+            ReadBoth { number: 0, place: 0, words: read.len() as u64, pattern }
+        }
+        Err(Refusal { number, place }) => ReadBoth { number, place, words: 0, pattern: pattern_of(1, 20_000) },
+    }
+}
+
+/// The bytes as letters, one for each byte.
+fn letters(bytes: &[u8]) -> String {
+    bytes.iter().map(|&byte| char::from(byte)).collect()
+}
+
+/// The file's lines with what closes them; only the last may be left open.
+fn lines(file: &str) -> Vec<&str> {
+    file.split_inclusive('\n').collect()
+}
+
+/// The fields of a line, by its number from 1, if it is there and closed.
+fn fields<'a>(lines: &[&'a str], line: usize) -> Option<Vec<&'a str>> {
+    let closed = lines.get(line - 1)?.strip_suffix('\n')?;
+    Some(closed.split(' ').collect())
+}
+
+/// The names in a line, which must be the expected ones in any order.
+fn names<'a>(lines: &[&'a str], line: usize, expected: &[&str]) -> Result<Vec<&'a str>, Refusal> {
+    let found = fields(lines, line).unwrap_or_default();
+    let (mut one, mut other) = (found.clone(), expected.to_vec());
+    one.sort_unstable();
+    other.sort_unstable();
+    if one != other {
+        return refuse(10, line);
+    }
+    Ok(found)
+}
+
+/// The values in a line, in the order of the names.
+fn values<'a>(lines: &[&str], line: usize, names: &[&'a str]) -> Result<Values<'a>, Refusal> {
+    let found = fields(lines, line).unwrap_or_default();
+    if found.len() != names.len() {
+        return refuse(11, line);
+    }
+    let mut values = Values(Vec::new());
+    for (&name, field) in names.iter().zip(found) {
+        match numbers(field) {
+            Some(numbers) if name == "words" || numbers.len() == 1 => {
+                values.0.push((name, numbers));
+            }
+            _ => return refuse(11, line),
+        }
+    }
+    Ok(values)
+}
+
+/// The numbers of a line, by their names.
+struct Values<'a>(Vec<(&'a str, Vec<u16>)>);
+
+impl Values<'_> {
+    /// The numbers under this name.
+    fn of(&self, name: &str) -> &[u16] {
+        let named = self.0.iter().find(|(other, _)| *other == name);
+        &named.expect("the line of names has been tested").1
+    }
+}
+
+/// The numbers that a field is made of, joined by commas.
+fn numbers(field: &str) -> Option<Vec<u16>> {
+    field.split(',').map(number).collect()
+}
+
+/// The number that a string is written as, if it is written as we would write it.
+fn number(written: &str) -> Option<u16> {
+    let number: u16 = written.parse().ok()?;
+    (number.to_string() == written).then_some(number)
+}

@@ -1,0 +1,20 @@
+-- Entries past the stated number of slots or words are not looked at: patterns that state the same have the same tally and full list.
+use Prim.Native.Nat.{ℕ}
+use mathlib.Core.Path.{_≡_}
+use mathlib.Core.List.{List}
+use lib.ListN.{length}
+use Rattle.pattern.specs.declared.Pattern.{Pattern}
+use Rattle.pattern.specs.Stated.{SameStated}
+use Rattle.matching.specs.Answers.{filled}
+use Rattle.matching.specs.Laws.Stated.{answers-same}
+use Rattle.counting.specs.Answers.{talliedAfter, tallied, listedAfter, allListed, allWritten}
+
+module _ {f g : Pattern} (same : SameStated f g) (t : List ℕ) where
+  pub tallied-same : tallied f t ≡ tallied g t
+  tallied-same = answers-same same t (λ v m H F B. talliedAfter v (length H))
+
+  pub all-listed-same : (n : ℕ) → allListed f t n ≡ allListed g t n
+  all-listed-same n = answers-same same t (λ v m H F B. listedAfter v (length H) m n)
+
+  pub all-written-same : (l : List ℕ) → allWritten f t l ≡ allWritten g t l
+  all-written-same l = answers-same same t (λ v m H F B. filled v m H l)

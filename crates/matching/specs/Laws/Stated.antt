@@ -1,0 +1,86 @@
+-- Entries past the stated number of slots or words are not looked at: patterns that state the same have the same occurrences, so the
+-- searches, the lists and the calls answer the same for them.
+use Prim.Native.Nat.{ℕ, _+_, _-_, _<_}
+use native.Mathlib.Omega.{arith}
+use mathlib.Core.Path.{_≡_, refl, fun-ext}
+use mathlib.Core.List.{List}
+use lib.ListN.{length}
+use Rattle.pattern.specs.declared.Pattern.{Pattern}
+use Rattle.pattern.specs.declared.refusal.Verdict.{Verdict}
+use Rattle.pattern.specs.Patterns.{slotAt}
+use Rattle.pattern.specs.Tests.{inputVerdict}
+use Rattle.pattern.specs.Stated.{SameStated}
+use Rattle.pattern.specs.Laws.Stated.{takes-same, input-same}
+use Rattle.matching.specs.Occurrence.{View, plain, at, wordAt}
+use Rattle.matching.specs.Occurrences.{within, occursIn, occurrencesIn, occurrences}
+use Rattle.matching.specs.Lists.{leftmostIn, rightmostIn, leftmost, rightmost}
+use Rattle.matching.specs.Answers.{rowVerdict, firstAfter, lastBefore, listed, filled, counted}
+use Rattle.matching.specs.Laws.Tests.{each-same}
+
+-- two views are the same to a pattern of m slots
+pub record SameView (m : ℕ) (v w : View) : Type 0 where
+  pub places : v .places ≡ w .places
+  pub fits : (j : ℕ) → j < m → (p : ℕ) → v .fits j p ≡ w .fits j p
+
+module _ {f g : Pattern} (same : SameStated f g) where
+  pub plain-same : (t : List ℕ) → SameView (f .count) (plain f t) (plain g t)
+  plain-same t = record { places = refl; fits = λ j h p. takes-same (same .slot j h) (wordAt t p) }
+
+  module _ {v w : View} (alike : SameView (f .count) v w) where
+    pub occurs-same : (r : List ℕ) → occursIn f v r ≡ occursIn g w r
+    unfolding occursIn
+    occurs-same r =
+        let fits = each-same (f .count) (λ j. v .fits j (at r j)) (λ j. w .fits j (at r j)) (λ j h. alike .fits j h (at r j)) in
+        let gaps = each-same (f .count - 1)
+        (λ j. within (at r j + slotAt f (j + 1) .low + 1) (at r (j + 1)) (at r j + slotAt f (j + 1) .high + 1))
+        (λ j. within (at r j + slotAt g (j + 1) .low + 1) (at r (j + 1)) (at r j + slotAt g (j + 1) .high + 1))
+        (λ j h. rw (same .slot (j + 1) (omega arith) .low, same .slot (j + 1) (omega arith) .high)) in
+        rw (fits, gaps, same .count, same .least, same .most, alike .places)
+
+    pub occurrences-same : occurrencesIn f v ≡ occurrencesIn g w
+    unfolding occurrencesIn
+    occurrences-same =
+        let tests : occursIn f v ≡ occursIn g w = fun-ext occurs-same in
+        rw (tests, same .count, alike .places)
+
+    pub leftmost-same : leftmostIn f v ≡ leftmostIn g w
+    unfolding leftmostIn
+    leftmost-same = rw (occurrences-same, same .count, alike .places)
+
+    pub rightmost-same : rightmostIn f v ≡ rightmostIn g w
+    unfolding rightmostIn
+    rightmost-same = rw (occurrences-same, same .count, alike .places)
+
+  -- ---- what the calls answer for a text
+
+  module _ (t : List ℕ) where
+    pub row-same : (row : List ℕ) → rowVerdict f t row ≡ rowVerdict g t row
+    unfolding rowVerdict
+    row-same row = rw (input-same same (length t), same .count)
+
+    pub first-same : (marks : List ℕ) → firstAfter f t marks ≡ firstAfter g t marks
+    first-same marks = rw (row-same marks, occurrences-same (plain-same t), same .count)
+
+    pub last-same : (marks : List ℕ) → lastBefore f t marks ≡ lastBefore g t marks
+    last-same marks = rw (row-same marks, occurrences-same (plain-same t), same .count)
+
+    -- whatever is made of the verdict, the number of slots and the three lists of rows
+    pub answers-same : {A : Type 0} (answer : Verdict → ℕ → List (List ℕ) → List (List ℕ) → List (List ℕ) → A)
+        → answer (inputVerdict f (length t)) (f .count) (occurrences f t) (leftmost f t) (rightmost f t)
+        ≡ answer (inputVerdict g (length t)) (g .count) (occurrences g t) (leftmost g t) (rightmost g t)
+    answers-same answer =
+        rw (leftmost-same (plain-same t), rightmost-same (plain-same t), occurrences-same (plain-same t), input-same same (length t), same .count)
+
+    -- the answer of the front list's call, and what the caller's list l then holds; the same of the back list; the count
+    pub front-same : (l : List ℕ)
+        → (listed (inputVerdict f (length t)) (f .count) (leftmost f t) (length l) ≡ listed (inputVerdict g (length t)) (g .count) (leftmost g t) (length l))
+        × (filled (inputVerdict f (length t)) (f .count) (leftmost f t) l ≡ filled (inputVerdict g (length t)) (g .count) (leftmost g t) l)
+    front-same l = (answers-same (λ v m H F B. listed v m F (length l)), answers-same (λ v m H F B. filled v m F l))
+
+    pub back-same : (l : List ℕ)
+        → (listed (inputVerdict f (length t)) (f .count) (rightmost f t) (length l) ≡ listed (inputVerdict g (length t)) (g .count) (rightmost g t) (length l))
+        × (filled (inputVerdict f (length t)) (f .count) (rightmost f t) l ≡ filled (inputVerdict g (length t)) (g .count) (rightmost g t) l)
+    back-same l = (answers-same (λ v m H F B. listed v m B (length l)), answers-same (λ v m H F B. filled v m B l))
+
+    pub count-same : counted (inputVerdict f (length t)) (leftmost f t) ≡ counted (inputVerdict g (length t)) (leftmost g t)
+    count-same = answers-same (λ v m H F B. counted v F)
