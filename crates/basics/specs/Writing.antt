@@ -1,5 +1,5 @@
--- Bytes over the start of a list, and what their writers promise.
-use Prim.Native.Nat.{ℕ, min}
+-- Bytes over a list, and what their writers leave.
+use Prim.Native.Nat.{ℕ, _+_, _-_, min}
 use mathlib.Core.Path.{_≡_}
 use mathlib.Core.List.{List, _++_}
 use lib.ListN.{length, take, drop}
@@ -8,11 +8,15 @@ use lib.ListN.{length, take, drop}
 abbrev pub overlaid : List ℕ → List ℕ → List ℕ
 overlaid bytes out = take (length out) bytes ++ drop (length bytes) out
 
--- the list holds as many of the bytes as fit over what it held at first, and the next byte goes to `at`
-pub record Holds (bytes first out : List ℕ) (at : ℕ) : Type 0 where
-  pub contents : out ≡ overlaid bytes first
-  pub end : at ≡ min (length bytes) (length first)
+-- as many of the bytes as fit over the list from the index `at` on: none where it lies past the end
+abbrev pub putAt : List ℕ → ℕ → List ℕ → List ℕ
+putAt bytes at out = take at out ++ overlaid bytes (drop at out)
 
--- the bytes are written after all that was written before
+-- the index after them
+abbrev pub nextAt : List ℕ → ℕ → List ℕ → ℕ
+nextAt bytes at out = at + min (length bytes) (length out - at)
+
+-- the bytes are written from the index `at` on, and the next byte goes to `next`
 pub record Writes (bytes before : List ℕ) (at : ℕ) (after : List ℕ) (next : ℕ) : Type 0 where
-  pub on : {done first : List ℕ} → Holds done first before at → Holds (done ++ bytes) first after next
+  pub end : next ≡ nextAt bytes at before
+  pub contents : after ≡ putAt bytes at before

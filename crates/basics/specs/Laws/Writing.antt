@@ -1,92 +1,100 @@
 -- Writers one after the other. Assumes nothing.
-use Prim.Native.Nat.{ℕ, suc, _+_, _≤_, _<_, min}
+use Prim.Native.Nat.{ℕ, zero, suc, _+_, _≤_, _<_, min}
 use native.Mathlib.Omega.{arith}
 use native.Mathlib.Numerals.{add-one}
-use mathlib.Core.Path.{_≡_, sym, ap, _∙_}
-use mathlib.Core.List.{List, [], _∷_, _++_, append-assoc, append-nil}
-use lib.ListN.{length, getD, take, drop, set, length-append, length-take, length-drop, drop-of-length-le}
-use lib.Seq.{take-all, take-nil, take-suc, take-append-le, set-at, drop-cons, append-snoc}
-use Rattle.basics.specs.Writing.{overlaid, Holds, Writes}
+use mathlib.Core.Path.{_≡_, refl, sym, ap, _∙_}
+use mathlib.Core.List.{List, [], _∷_, _++_, append-nil}
+use lib.ListN.{length, getD, take, drop, set, length-append, length-take, length-drop, take-append-drop, drop-of-length-le}
+use lib.Seq.{take-all, take-nil, take-suc, drop-nil}
+use Rattle.basics.specs.Writing.{overlaid, putAt, nextAt, Writes}
 
--- ---- bytes over the start of a list
+-- ---- bytes over a list
 
 -- the list keeps its length
 pub length-overlaid : (bytes out : List ℕ) → length (overlaid bytes out) ≡ length out
 length-overlaid bytes out = simp (length-append, length-take, length-drop) (omega arith)
 
+-- the list keeps its length
+pub length-putAt : (bytes : List ℕ) (at : ℕ) (out : List ℕ) → length (putAt bytes at out) ≡ length out
+length-putAt bytes at out = simp (length-append, length-take, length-drop) (omega arith)
+
 -- all of them fit
 pub overlaid-short : (bytes out : List ℕ) → length bytes ≤ length out → overlaid bytes out ≡ bytes ++ drop (length bytes) out
 overlaid-short bytes out h = rw (take-all (length out) bytes h)
 
--- they fill the list
-overlaid-long : (bytes out : List ℕ) → length out ≤ length bytes → overlaid bytes out ≡ take (length out) bytes
-overlaid-long bytes out h = rw (drop-of-length-le out h) (append-nil (take (length out) bytes))
+-- no bytes
+overlaid-none : (out : List ℕ) → overlaid [] out ≡ out
+overlaid-none out = rw (take-nil {A = ℕ} (length out))
 
--- one byte more
-overlaid-byte : (done first : List ℕ) (byte at : ℕ) → length done ≡ at → at < length first → set (overlaid done first) at byte ≡ overlaid (done ++ (byte ∷ [])) first
-overlaid-byte done first byte at e h =
-    let n : length (done ++ (byte ∷ [])) ≡ suc at = simp length-append (omega arith) in
-    ap (λ (l : List ℕ). set l at byte) (overlaid-short done first (omega arith))
-    ∙ ap (λ (k : ℕ). set (done ++ drop k first) at byte) e
-    ∙ ap (λ (l : List ℕ). set (done ++ l) at byte) (drop-cons first at 0 h)
-    ∙ set-at done _ (drop (suc at) first) byte at e
-    ∙ sym (append-snoc done byte (drop (suc at) first))
-    ∙ ap (λ (k : ℕ). (done ++ (byte ∷ [])) ++ drop k first) (sym n)
-    ∙ sym (overlaid-short (done ++ (byte ∷ [])) first (omega arith))
+-- no bytes
+putAt-none : (at : ℕ) (out : List ℕ) → putAt [] at out ≡ out
+putAt-none at out = ap (λ (l : List ℕ). take at out ++ l) (overlaid-none (drop at out)) ∙ take-append-drop at out
 
--- no byte more has room
-overlaid-full : (done first more : List ℕ) → length first ≤ length done → overlaid done first ≡ overlaid (done ++ more) first
-overlaid-full done first more h =
-    overlaid-long done first h
-    ∙ sym (take-append-le (length first) done more h)
-    ∙ sym (overlaid-long (done ++ more) first (omega (arith, length-append done more)))
+-- one byte
+pub putAt-byte : (byte at : ℕ) (out : List ℕ) → at < length out → putAt (byte ∷ []) at out ≡ set out at byte
+putAt-byte byte zero [] h = absurd (omega arith)
+putAt-byte byte zero (x ∷ out) h = ap (λ (l : List ℕ). byte ∷ l) (overlaid-none out)
+putAt-byte byte (suc at) [] h = absurd (omega arith)
+putAt-byte byte (suc at) (x ∷ out) h = ap (λ (l : List ℕ). x ∷ l) (putAt-byte byte at out (omega arith))
+
+-- no room
+pub putAt-full : (bytes : List ℕ) (at : ℕ) (out : List ℕ) → length out ≤ at → putAt bytes at out ≡ out
+putAt-full bytes at out h =
+    ap (λ (l : List ℕ). take at out ++ overlaid bytes l) (drop-of-length-le out h)
+    ∙ ap (λ (l : List ℕ). take at out ++ l) (drop-nil {A = ℕ} (length bytes))
+    ∙ append-nil (take at out)
+    ∙ take-all at out h
+
+-- some bytes over the start, and then others
+overlaid-append : (a b out : List ℕ) (n : ℕ) → n ≡ min (length a) (length out) → overlaid (a ++ b) out ≡ putAt b n (overlaid a out)
+overlaid-append [] b out n e =
+    let none : 0 ≡ n = omega arith in
+    ap (λ (l : List ℕ). overlaid b l) (sym (overlaid-none out)) ∙ ap (λ (k : ℕ). putAt b k (overlaid [] out)) none
+overlaid-append (y ∷ a) b [] n e = sym (putAt-full b n [] (omega arith))
+overlaid-append (y ∷ a) b (x ∷ out) n e =
+    let more : suc (min (length a) (length out)) ≡ n = omega arith in
+    ap (λ (l : List ℕ). y ∷ l) (overlaid-append a b out _ refl) ∙ ap (λ (k : ℕ). putAt b k (y ∷ overlaid a out)) more
+
+-- some bytes, and then others after them
+pub putAt-append : (a b : List ℕ) (at n : ℕ) (out : List ℕ) → n ≡ nextAt a at out → putAt (a ++ b) at out ≡ putAt b n (putAt a at out)
+putAt-append a b zero n out e = overlaid-append a b out n (omega arith)
+putAt-append a b (suc at) n [] e =
+    putAt-full (a ++ b) (suc at) [] (omega arith)
+    ∙ sym (putAt-full b n [] (omega arith))
+    ∙ ap (λ (l : List ℕ). putAt b n l) (sym (putAt-full a (suc at) [] (omega arith)))
+putAt-append a b (suc at) n (x ∷ out) e =
+    let more : suc (nextAt a at out) ≡ n = omega arith in
+    ap (λ (l : List ℕ). x ∷ l) (putAt-append a b at _ out refl) ∙ ap (λ (k : ℕ). putAt b k (x ∷ putAt a at out)) more
+
+-- and where they end
+pub nextAt-append : (a b : List ℕ) (at n : ℕ) (out : List ℕ) → n ≡ nextAt a at out → nextAt (a ++ b) at out ≡ nextAt b n (putAt a at out)
+nextAt-append a b at n out e = omega (arith, length-append a b, length-putAt a at out)
 
 -- ---- writers
 
+-- what a writer promises
+pub writes-of : {bytes before after : List ℕ} {at next : ℕ} → (next ≡ nextAt bytes at before) × (after ≡ putAt bytes at before) → Writes bytes before at after next
+writes-of e = record { end = e .0; contents = e .1 }
+
 -- nothing is written
 pub writes-none : {out : List ℕ} {at : ℕ} → Writes [] out at out at
-writes-none = record { on = λ {done} h. rw (append-nil done) h }
+writes-none {out} {at} = record { end = omega arith; contents = sym (putAt-none at out) }
 
 -- one writer after another
 pub writes-then : {xs ys a b c : List ℕ} {i j k : ℕ} → Writes xs a i b j → Writes ys b j c k → Writes (xs ++ ys) a i c k
-writes-then {xs} {ys} v w = record { on = λ {done} h. rw (← append-assoc done xs ys) (w .on (v .on h)) }
+writes-then {xs} {ys} {a} {i = i} {j = j} v w =
+    record {
+      end = w .end ∙ ap (λ (l : List ℕ). nextAt ys j l) (v .contents) ∙ sym (nextAt-append xs ys i j a (v .end));
+      contents = w .contents ∙ ap (λ (l : List ℕ). putAt ys j l) (v .contents) ∙ sym (putAt-append xs ys i j a (v .end));
+    }
 
 -- the same bytes
 pub writes-same : {xs ys a b : List ℕ} {i j : ℕ} → xs ≡ ys → Writes xs a i b j → Writes ys a i b j
 writes-same e w = rw e at w
 
--- a byte is stored where there is room
-pub writes-byte : {out : List ℕ} {at byte : ℕ} → at < length out → Writes (byte ∷ []) out at (set out at byte) (at + 1)
-writes-byte {out} {at} {byte} room = record { on = λ {done} {first} h. go done first h }
-  where
-    go : (done first : List ℕ) → Holds done first out at → Holds (done ++ (byte ∷ [])) first (set out at byte) (at + 1)
-    go done first h =
-        let size : length out ≡ length first = ap length (h .contents) ∙ length-overlaid done first in
-        let end : length done ≡ at = omega (arith, h .end) in
-        let more : length (done ++ (byte ∷ [])) ≡ at + 1 = simp length-append (omega arith) in
-        record {
-          contents = ap (λ (l : List ℕ). set l at byte) (h .contents) ∙ overlaid-byte done first byte at end (omega arith);
-          end = omega arith;
-        }
-
--- nothing is stored where there is none
-pub writes-full : {more out : List ℕ} {at : ℕ} → length out ≤ at → Writes more out at out at
-writes-full {more} {out} {at} full = record { on = λ {done} {first} h. go done first h }
-  where
-    go : (done first : List ℕ) → Holds done first out at → Holds (done ++ more) first out at
-    go done first h =
-        let size : length out ≡ length first = ap length (h .contents) ∙ length-overlaid done first in
-        let long : length first ≤ length done = omega (arith, h .end) in
-        record {
-          contents = h .contents ∙ overlaid-full done first more long;
-          end = omega (arith, h .end, length-append done more);
-        }
-
 -- from the start on
 pub writes-all : {bytes out after : List ℕ} {end : ℕ} → Writes bytes out 0 after end → (end ≡ min (length bytes) (length out)) × (after ≡ overlaid bytes out)
-writes-all {bytes} {out} w =
-    let h : Holds [] out out 0 = record { contents = rw (take-nil {A = ℕ} (length out)); end = omega arith } in
-    (w .on h .end, w .on h .contents)
+writes-all w = (omega (arith, w .end), w .contents)
 
 -- ---- byte by byte
 

@@ -3,7 +3,7 @@ use Prim.Native.Nat.{ℕ, _<_}
 use native.Mathlib.Omega.{arith}
 use mathlib.Core.Path.{sym, _∙_}
 use borrow.Author.Needs.{needs}
-use Rattle.basics.specs.Laws.Writing.{writes-same, writes-then}
+use Rattle.basics.specs.Laws.Writing.{writes-of, writes-same, writes-then}
 use Rattle.basics.specs.Laws.Digits.{one-digit, last-digit}
 use borrow.Fn.Kinds.{In}
 use borrow.Fn.PlainCycle.{Measures, is, falls, and}
@@ -42,7 +42,10 @@ put-number-same-length : (t : ℕ) → put-number-lts.Need-same-length (calls t)
 put-number-same-length t c = c .before .before .put-byte .kept .0
 
 put-number-returns : (t : ℕ) → put-number-lts.Need-returns (calls t) (put-number-at t) put-number.Post
-put-number-returns t c = let a = c .before .before .before .before .before .before .args in writes-same (sym (one-digit (a .n) (c .before .before .before .before .if1 .taken))) (c .before .before .put-byte .ensures)
+put-number-returns t c =
+    let a = c .before .before .before .before .before .before .args in
+    let w = writes-same (sym (one-digit (a .n) (c .before .before .before .before .if1 .taken))) (writes-of (c .before .before .put-byte .ensures)) in
+    (w .end, w .contents)
 
 put-number-put-number-requires : (t : ℕ) → put-number-lts.Need-put-number-requires (calls t) (put-number-at t) put-number.Post
 put-number-put-number-requires t c κs = (omega (arith, c .before .if1 .left, c .before .before .before .pre .0), tt)
@@ -64,7 +67,9 @@ put-number-returns-2 t c =
     let start = c .before .before .before .before .before .before .before .before .before .before in
     let n = start .args .n in
     let big = c .before .before .before .before .before .before .before .before .if1 .left in
-    writes-same (sym (last-digit n big (start .fits .n .fits))) (writes-then (c .before .before .before .before .before .before .put-number .ensures) (c .before .before .put-byte2 .ensures))
+    let w = writes-then (writes-of (c .before .before .before .before .before .before .put-number .ensures)) (writes-of (c .before .before .put-byte2 .ensures)) in
+    let v = writes-same (sym (last-digit n big (start .fits .n .fits))) w in
+    (v .end, v .contents)
 
 pub +put-number-spec : {M : Type 1} → statement M
 +put-number-spec = close μ-put-number λ t. put-number-lts.spec (calls t)

@@ -4,7 +4,7 @@ use mathlib.Core.Path.{_≡_, refl, _∙_}
 use lib.ListN.{length, take}
 use borrow.Author.Needs.{needs}
 use Rattle.basics.specs.Writing.{Writes}
-use Rattle.basics.specs.Laws.Writing.{writes-none, writes-next, writes-whole}
+use Rattle.basics.specs.Laws.Writing.{writes-of, writes-none, writes-next, writes-whole}
 use Rattle.basics.proofs.bytes.put_bytes.Statement.{statement}
 use Rattle.basics.proofs.bytes.put_bytes.Tie as tie
 
@@ -34,13 +34,13 @@ loop-again c =
     let loop = c .before .before .before .before .before .before .loop in
     let bytes = c .before .before .before .before .before .before .before .before .before .args .bytes .now in
     let w = c .before .before .put-byte in
-    (search needs, w .kept .0 ∙ loop .inv .1, writes-next bytes (loop .i) (c .before .before .before .before .before .loop-test .taken) (loop .inv .2) (w .ensures))
+    (search needs, w .kept .0 ∙ loop .inv .1, writes-next bytes (loop .i) (c .before .before .before .before .before .loop-test .taken) (loop .inv .2) (writes-of (w .ensures)))
 
 same-length : tie.Need-same-length Inv-loop μ-loop
 same-length c = c .before .loop .inv .1
 
 returns : tie.Need-returns Inv-loop μ-loop
-returns c = writes-whole (c .before .before .before .before .args .bytes .now) (c .before .loop .i) (c .loop-test .left) (c .before .loop .inv .2)
+returns c = let w = writes-whole (c .before .before .before .before .args .bytes .now) (c .before .loop .i) (c .loop-test .left) (c .before .loop .inv .2) in (w .end, w .contents)
 
 pub put-bytes-spec : {M : Type 1} → statement M
 put-bytes-spec =

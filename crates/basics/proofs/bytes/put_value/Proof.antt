@@ -1,5 +1,5 @@
 -- `basics::put_value` meets its contract: the byte is written after the number.
-use Rattle.basics.specs.Laws.Writing.{writes-then}
+use Rattle.basics.specs.Laws.Writing.{writes-of, writes-then}
 use borrow.Author.Needs.{needs}
 use Rattle.basics.proofs.bytes.put_value.Statement.{statement}
 use Rattle.basics.proofs.bytes.put_value.Tie as tie
@@ -14,7 +14,7 @@ same-length : tie.Need-same-length
 same-length c = search needs
 
 returns : tie.Need-returns
-returns c = writes-then (c .before .before .before .before .before .before .put-number .ensures) (c .before .before .put-byte .ensures)
+returns c = let w = writes-then (writes-of (c .before .before .before .before .before .before .put-number .ensures)) (writes-of (c .before .before .put-byte .ensures)) in (w .end, w .contents)
 
 pub put-value-spec : {M : Type 1} → statement M
 put-value-spec = tie.close (tie.spec put-number-requires put-byte-requires same-length returns)

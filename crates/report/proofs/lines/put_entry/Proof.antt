@@ -1,5 +1,6 @@
 -- `report::lines::put_entry` meets its contract: row and slot are written before the two places.
 use mathlib.Core.List.{[], _∷_}
+use Rattle.basics.specs.Laws.Writing.{writes-of}
 use Rattle.report.proofs.Writers.{writes-value}
 use borrow.Author.Needs.{needs}
 use Rattle.report.proofs.lines.put_entry.Statement.{statement}
@@ -18,7 +19,7 @@ same-length : tie.Need-same-length
 same-length c = search needs
 
 returns : tie.Need-returns
-returns c = let a = c .before .before .before .before .before .before .before .before .before .before .before .before .before .args in writes-value (a .row) (a .slot) (a .front ∷ a .back ∷ []) (c .before .before .before .before .before .before .before .before .before .before .put-value .ensures) (writes-value (a .slot) (a .front) (a .back ∷ []) (c .before .before .before .before .before .before .put-value2 .ensures) (c .before .before .put-pair .ensures))
+returns c = let a = c .before .before .before .before .before .before .before .before .before .before .before .before .before .args in writes-value (a .row) (a .slot) (a .front ∷ a .back ∷ []) (writes-of (c .before .before .before .before .before .before .before .before .before .before .put-value .ensures)) (writes-value (a .slot) (a .front) (a .back ∷ []) (writes-of (c .before .before .before .before .before .before .put-value2 .ensures)) (c .before .before .put-pair .ensures))
 
 pub put-entry-spec : {M : Type 1} → statement M
 put-entry-spec =

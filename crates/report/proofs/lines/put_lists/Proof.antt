@@ -2,6 +2,7 @@
 use mathlib.Core.List.{[], _∷_}
 use lib.ListN.{length}
 use Rattle.report.specs.Lines.{values, countNames, tableNames, entryLines}
+use Rattle.basics.specs.Laws.Writing.{writes-of}
 use Rattle.report.proofs.Writers.{writes-line, writes-lines}
 use borrow.Author.Needs.{needs}
 use Rattle.report.proofs.lines.put_lists.Statement.{statement}
@@ -32,8 +33,8 @@ returns : tie.Need-returns
 returns c = let a = c .before .before .before .before .before .before .before .before .before .before .before .before .before .before .before .before .before .before .before .before .before .args in
     let table = entryLines (a .m) (a .front .now) (a .back .now) (length (a .front .now)) in
     let head = values (a .count ∷ a .tally ∷ []) in
-    let rest = writes-line tableNames table (c .before .before .before .before .before .before .put-bytes2 .ensures) (c .before .before .put-table .ensures) in
-    writes-line countNames (head ∷ tableNames ∷ table) (c .before .before .before .before .before .before .before .before .before .before .before .before .before .before .before .put-bytes .ensures) (writes-lines (head ∷ []) (tableNames ∷ table) (c .before .before .before .before .before .before .before .before .before .before .before .put-pair .ensures) rest)
+    let rest = writes-line tableNames table (writes-of (c .before .before .before .before .before .before .put-bytes2 .ensures)) (c .before .before .put-table .ensures) in
+    writes-line countNames (head ∷ tableNames ∷ table) (writes-of (c .before .before .before .before .before .before .before .before .before .before .before .before .before .before .before .put-bytes .ensures)) (writes-lines (head ∷ []) (tableNames ∷ table) (c .before .before .before .before .before .before .before .before .before .before .before .put-pair .ensures) rest)
 
 pub put-lists-spec : {M : Type 1} → statement M
 put-lists-spec =

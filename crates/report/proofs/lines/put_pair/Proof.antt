@@ -1,5 +1,6 @@
 -- `report::lines::put_pair` meets its contract: one value is written after the other.
 use mathlib.Core.List.{[]}
+use Rattle.basics.specs.Laws.Writing.{writes-of}
 use Rattle.report.proofs.Writers.{writes-value, writes-last}
 use borrow.Author.Needs.{needs}
 use Rattle.report.proofs.lines.put_pair.Statement.{statement}
@@ -15,7 +16,7 @@ same-length : tie.Need-same-length
 same-length c = search needs
 
 returns : tie.Need-returns
-returns c = let a = c .before .before .before .before .before .before .before .before .before .args in writes-value (a .a) (a .b) [] (c .before .before .before .before .before .before .put-value .ensures) (writes-last (a .b) (c .before .before .put-value2 .ensures))
+returns c = let a = c .before .before .before .before .before .before .before .before .before .args in writes-value (a .a) (a .b) [] (writes-of (c .before .before .before .before .before .before .put-value .ensures)) (writes-last (a .b) (writes-of (c .before .before .put-value2 .ensures)))
 
 pub put-pair-spec : {M : Type 1} → statement M
 put-pair-spec = tie.close (tie.spec put-value-requires put-value-requires-2 same-length returns)

@@ -1,6 +1,7 @@
 -- `report::lines::put_refusal` meets its contract: the line of values is written after the names.
 use mathlib.Core.List.{[], _∷_}
 use Rattle.report.specs.Lines.{values, refusalNames}
+use Rattle.basics.specs.Laws.Writing.{writes-of}
 use Rattle.report.proofs.Writers.{writes-line}
 use borrow.Author.Needs.{needs}
 use Rattle.report.proofs.lines.put_refusal.Statement.{statement}
@@ -28,7 +29,7 @@ same-length : tie.Need-same-length
 same-length c = search needs
 
 returns : tie.Need-returns
-returns c = rw (← c .before .before .before .before .number .ensures, ← c .before .before .before .place .ensures) (writes-line refusalNames (values (c .before .before .before .before .number .result ∷ c .before .before .before .place .result ∷ []) ∷ []) (c .before .before .before .before .before .before .before .before .put-bytes .ensures) (c .before .before .put-pair .ensures))
+returns c = rw (← c .before .before .before .before .number .ensures, ← c .before .before .before .place .ensures) (writes-line refusalNames (values (c .before .before .before .before .number .result ∷ c .before .before .before .place .result ∷ []) ∷ []) (writes-of (c .before .before .before .before .before .before .before .before .put-bytes .ensures)) (c .before .before .put-pair .ensures))
 
 pub put-refusal-spec : {M : Type 1} → statement M
 put-refusal-spec =
