@@ -14,8 +14,9 @@ use Rattle.matching.specs.Occurrences.{occurrencesIn, startingIn}
 use Rattle.basics.specs.Sums.{total}
 use Rattle.basics.specs.Laws.Sums.{total-same}
 use Rattle.basics.specs.Choice.{when}
-use Rattle.matching.specs.Laws.Branches.{stands, ways}
-use Rattle.matching.specs.Laws.Cover.{width, limit, least, count-each, count-all, tally-places}
+use Rattle.matching.specs.Branches.{stands, ways}
+use Rattle.matching.specs.Spans.{width, limit, least}
+use Rattle.matching.specs.Laws.Cover.{count-each, count-all, tally-places}
 use Rattle.counting.specs.declared.gaps.Outline.{Outline}
 use Rattle.counting.specs.declared.window.Window.{Window}
 use Rattle.counting.specs.Inputs.{Input}

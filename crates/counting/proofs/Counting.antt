@@ -16,8 +16,8 @@ use Rattle.counting.specs.Inputs.{Input}
 use Rattle.basics.specs.Sums.{total, rest}
 use Rattle.basics.specs.Laws.Sums.{total-same, total-none, run-inside, run-past}
 use Rattle.basics.specs.Choice.{when}
-use Rattle.matching.specs.Laws.Branches.{stands, ways}
-use Rattle.matching.specs.Laws.Cover.{far}
+use Rattle.matching.specs.Branches.{stands, ways}
+use Rattle.matching.specs.Spans.{far}
 use Rattle.counting.specs.Laws.Bound.{total-fits}
 use Rattle.counting.specs.Numbers.{val}
 use Rattle.counting.specs.declared.window.Window.{Window}

@@ -12,7 +12,7 @@ use borrow.Author.Count.{below-more}
 use Rattle.pattern.specs.declared.Pattern.{Pattern}
 use Rattle.pattern.specs.Patterns.{slotAt}
 use Rattle.pattern.specs.Accepted.{Accepted}
-use Rattle.matching.specs.Laws.Cover.{distance, near, far, width}
+use Rattle.matching.specs.Spans.{distance, near, far, width}
 use Rattle.counting.specs.Laws.Inputs.{gaps}
 use Rattle.counting.specs.Laws.Bound.{distance-bound}
 use Rattle.counting.specs.Steps.Plans.{bound, Bounds, unbound}

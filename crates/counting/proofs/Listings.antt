@@ -14,8 +14,10 @@ use Rattle.basics.specs.Written.{written}
 use Rattle.basics.specs.Laws.Collections.{every-map}
 use Rattle.matching.specs.Laws.Enumeration.{occurrences-occur}
 use Rattle.basics.specs.Sums.{gather}
-use Rattle.matching.specs.Laws.Branches.{branches, length-branches, ways, tree, forest, occurrences-forest}
-use Rattle.matching.specs.Laws.Cover.{width, limit, least, covers-all, occurrences-each}
+use Rattle.matching.specs.Branches.{branches, ways}
+use Rattle.matching.specs.Laws.Branches.{length-branches, tree, forest, occurrences-forest}
+use Rattle.matching.specs.Spans.{width, limit, least}
+use Rattle.matching.specs.Laws.Cover.{covers-all, occurrences-each}
 use Rattle.counting.specs.declared.window.Window.{Window}
 use Rattle.counting.specs.Inputs.{Input}
 use Rattle.counting.specs.Laws.Inputs.{gaps}

@@ -14,7 +14,7 @@ use Rattle.matching.specs.Occurrence.{View}
 use Rattle.matching.specs.Occurrences.{places}
 use Rattle.basics.specs.Sums.{gather}
 use Rattle.basics.specs.Choice.{only}
-use Rattle.matching.specs.Laws.Branches.{stands, branches}
+use Rattle.matching.specs.Branches.{stands, branches}
 use Rattle.counting.specs.declared.window.Window.{Window}
 use Rattle.counting.specs.Steps.Fits.{fitted, Fitted}
 use Rattle.counting.specs.Steps.Rows.{size, stopAt}

@@ -8,7 +8,7 @@ ghost use Prim.Native.Nat.{_+_, _-_, _≤_, min};
 ghost use lib.ListN.{length, getD};
 ghost use lib.Dec.{leb};
 ghost use Rattle.pattern.specs.Accepted.{Accepted};
-ghost use Rattle.matching.specs.Laws.Cover.{distance};
+ghost use Rattle.matching.specs.Spans.{distance};
 ghost use Rattle.counting.specs.Steps.Plans.{bound, Bounds, Outlined};
 
 // The gap before a slot at its widest, where `wide`, or at its least.

@@ -12,7 +12,7 @@ ghost use mathlib.Core.Path.{_≡_};
 ghost use mathlib.Core.Bool.{true};
 ghost use Prim.Native.Nat.{_^_, _<_, _≤_};
 ghost use lib.ListN.{length};
-ghost use Rattle.matching.specs.Laws.Cover.{width};
+ghost use Rattle.matching.specs.Spans.{width};
 ghost use Rattle.basics.specs.Sums.{total};
 ghost use Rattle.matching.specs.Occurrences.{occurrencesIn};
 ghost use Rattle.counting.specs.Numbers.{value, val};

@@ -15,7 +15,8 @@ use Rattle.matching.specs.Lists.{leftmostIn}
 use Rattle.matching.specs.Steps.Settling.{Ready, Answered, Spare}
 use Rattle.matching.specs.Laws.Direction.{forwards}
 use Rattle.matching.specs.Laws.Greedy.{Run, start, run-append, run-done, run-split}
-use Rattle.matching.specs.Laws.Extremes.{EarliestIn, leftmost-front, front-unique}
+use Rattle.matching.specs.Searches.{EarliestIn}
+use Rattle.matching.specs.Laws.Extremes.{leftmost-front, front-unique}
 
 pub take-zeros : (m n : ℕ) → m ≤ n → take m (replicate n 0) ≡ level m 0
 take-zeros zero n h = refl

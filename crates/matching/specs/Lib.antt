@@ -1,7 +1,10 @@
--- The meanings, in the order of document 004's Definitions 3 to 6. `Laws` has what follows from them.
+-- The meanings, in the order of document 004's Definitions 3 to 6. `Branches` and `Spans` say the occurrences as the counting
+-- finds them. `Laws` has what follows, `Steps` the contracts inside.
 pub mod Occurrence
 pub mod Occurrences
 pub mod Rows
+pub mod Branches
+pub mod Spans
 pub mod Searches
 pub mod Nonoverlap
 pub mod Lists

@@ -23,6 +23,14 @@ before m r s = each m (λ j. ltb (at r j) (at s j))
 unfoldable pub NotAfter : ℕ → List ℕ → List ℕ → Type 0
 NotAfter m r s = (j : ℕ) → j < m → at r j ≤ at s j
 
+-- the two seen from the end of the text: r stands after s at each of m slots
+abbrev pub After : ℕ → List ℕ → List ℕ → Type 0
+After m r s = Before m s r
+
+-- and before s at none of them
+abbrev pub NotBefore : ℕ → List ℕ → List ℕ → Type 0
+NotBefore m r s = NotAfter m s r
+
 -- the earlier place at each slot
 unfoldable pub meet : List ℕ → List ℕ → List ℕ
 meet [] s = []

@@ -4,10 +4,10 @@ use Prim.Native.Nat.{ℕ}
 use mathlib.Core.List.{List, [], _∷_}
 use mathlib.Core.Option.{Option, none, some}
 use Rattle.pattern.specs.declared.Pattern.{Pattern}
-use Rattle.matching.specs.Occurrence.{View, plain}
+use Rattle.matching.specs.Occurrence.{View, plain, OccursIn}
 use Rattle.basics.specs.Collections.{select}
 use Rattle.matching.specs.Occurrences.{occurrencesIn}
-use Rattle.matching.specs.Rows.{before, meet, join}
+use Rattle.matching.specs.Rows.{before, Before, NotAfter, After, NotBefore, meet, join}
 
 -- at each slot the place that `near` prefers among the rows r and R
 unfoldable pub nearest : (List ℕ → List ℕ → List ℕ) → List ℕ → List (List ℕ) → List ℕ
@@ -39,3 +39,26 @@ latestIn f v marks = latestOf (f .count) (occurrencesIn f v) marks
 
 abbrev pub latest : Pattern → List ℕ → List ℕ → Option (List ℕ)
 latest f t marks = latestIn f (plain f t) marks
+
+-- ---- what a found row is; `Laws/Extremes` proves that the searches find just these
+
+-- of the rows with `Hit`, r is past the marks, and no such row is nearer at any slot
+module _ (Hit : List ℕ → Type 0) (_≺_ _≼_ : List ℕ → List ℕ → Type 0) where
+  infix 40 _≺_
+  infix 40 _≼_
+  pub record Nearest (marks r : List ℕ) : Type 0 where
+    pub hit : Hit r
+    pub past : marks ≺ r
+    pub least : (s : List ℕ) → Hit s → marks ≺ s → r ≼ s
+
+-- the occurrence past the marks that is earliest at every slot
+abbrev pub EarliestIn : Pattern → View → List ℕ → List ℕ → Type 0
+EarliestIn f v = Nearest (OccursIn f v) (Before (f .count)) (NotAfter (f .count))
+
+-- the same in a text
+abbrev pub Earliest : Pattern → List ℕ → List ℕ → List ℕ → Type 0
+Earliest f t = EarliestIn f (plain f t)
+
+-- the occurrence before the marks that is latest at every slot
+abbrev pub LatestIn : Pattern → View → List ℕ → List ℕ → Type 0
+LatestIn f v = Nearest (OccursIn f v) (After (f .count)) (NotBefore (f .count))

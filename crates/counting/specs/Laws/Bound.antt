@@ -9,8 +9,9 @@ use Rattle.matching.specs.Occurrence.{View}
 use Rattle.basics.specs.Sums.{total}
 use Rattle.basics.specs.Laws.Sums.{total-bound}
 use Rattle.basics.specs.Laws.Choice.{when-bound}
-use Rattle.matching.specs.Laws.Branches.{ways}
-use Rattle.matching.specs.Laws.Cover.{distance, limit, least, tally-each}
+use Rattle.matching.specs.Branches.{ways}
+use Rattle.matching.specs.Spans.{distance, limit, least}
+use Rattle.matching.specs.Laws.Cover.{tally-each}
 use Rattle.counting.specs.Laws.Inputs.{gaps}
 use Rattle.counting.specs.Inputs.{Input}
 use Rattle.matching.specs.Occurrences.{occurrencesIn}

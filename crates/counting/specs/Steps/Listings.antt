@@ -6,7 +6,7 @@ use mathlib.Core.Path.{_≡_}
 use lib.ListN.{length}
 use Rattle.pattern.specs.declared.Pattern.{Pattern}
 use Rattle.matching.specs.Occurrences.{occurrencesIn}
-use Rattle.matching.specs.Laws.Cover.{width}
+use Rattle.matching.specs.Spans.{width}
 use Rattle.counting.specs.Steps.Plans.{Known, knownView, Plan, planPattern, planRows, unbound}
 
 pub record PutAll (f : Pattern) (n : ℕ) (T : List ℕ) (space : ℕ) : Type 0 where

@@ -10,7 +10,7 @@ use Rattle.pattern.specs.declared.Pattern.{Pattern}
 use Rattle.pattern.specs.Patterns.{slotAt}
 use Rattle.matching.specs.Occurrence.{View}
 use Rattle.matching.specs.Occurrences.{occurrencesIn}
-use Rattle.matching.specs.Laws.Cover.{near, far, width}
+use Rattle.matching.specs.Spans.{near, far, width}
 use Rattle.counting.specs.declared.gaps.Outline.{Outline}
 use Rattle.counting.specs.declared.window.Window.{Window}
 use Rattle.counting.specs.Inputs.{Input}

@@ -11,8 +11,8 @@ use Rattle.matching.specs.Occurrence.{View}
 use Rattle.matching.specs.Occurrences.{startingIn}
 use Rattle.basics.specs.Sums.{rest}
 use Rattle.basics.specs.Choice.{when}
-use Rattle.matching.specs.Laws.Branches.{ways}
-use Rattle.matching.specs.Laws.Cover.{far}
+use Rattle.matching.specs.Branches.{ways}
+use Rattle.matching.specs.Spans.{far}
 use Rattle.counting.specs.declared.window.Window.{Window}
 use Rattle.counting.specs.Numbers.{val}
 use Rattle.counting.specs.Steps.Fits.{fitted}

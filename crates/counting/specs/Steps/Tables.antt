@@ -8,7 +8,7 @@ use lib.ListN.{getD}
 use lib.Dec.{leb}
 use Rattle.pattern.specs.declared.Pattern.{Pattern}
 use Rattle.matching.specs.Occurrence.{View}
-use Rattle.matching.specs.Laws.Branches.{branches}
+use Rattle.matching.specs.Branches.{branches}
 use Rattle.counting.specs.declared.window.Window.{Window}
 use Rattle.counting.specs.Steps.Fits.{fitted}
 use Rattle.counting.specs.Steps.Rows.{size, stopAt}

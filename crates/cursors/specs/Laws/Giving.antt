@@ -12,10 +12,10 @@ use Rattle.pattern.specs.declared.refusal.Verdict.the-variants.{Accepted, Refus
 use Rattle.matching.specs.declared.searches.Outcome.{Outcome}
 use Rattle.matching.specs.declared.searches.Outcome.the-variants.{Found, Absent, Refused as NotSearched}
 use Rattle.matching.specs.Occurrence.{plain}
-use Rattle.matching.specs.Searches.{earliest}
+use Rattle.matching.specs.Searches.{earliest, Earliest}
 use Rattle.matching.specs.Answers.{sixteen}
 use Rattle.matching.specs.Rows.{Before}
-use Rattle.matching.specs.Laws.Extremes.{Earliest, earliest-some}
+use Rattle.matching.specs.Laws.Extremes.{earliest-some}
 use Rattle.cursors.specs.declared.Cursors.{Cursors}
 use Rattle.cursors.specs.declared.Marks.{Marks}
 use Rattle.cursors.specs.Machine.{marksOf, marksOver, moved, clientVerdict, nextVerdict, servedBy, nextServed, rewoundBy, rewound, nowhere}

@@ -7,10 +7,10 @@ use mathlib.Core.List.{List, [], reverse}
 use lib.ListN.{length, getD, length-reverse}
 use Rattle.matching.specs.Occurrence.{Apart}
 use Rattle.basics.specs.Collections.{Every, Pairwise}
-use Rattle.matching.specs.Rows.{Before, NotAfter}
+use Rattle.matching.specs.Rows.{Before, NotAfter, After, NotBefore}
 use Rattle.matching.specs.Rising.{rising}
 use Rattle.basics.specs.Laws.Collections.{every-map, pairwise-map, every-reverse, pairwise-reverse, getD-reverse}
-use Rattle.matching.specs.Laws.Rows.{After, NotBefore, Sublattice}
+use Rattle.matching.specs.Laws.Rows.{Sublattice}
 use Rattle.matching.specs.Laws.Direction.{Direction, forwards, backwards}
 use Rattle.matching.specs.Laws.Rising.{length-rising, rising-every, rising-before}
 use Rattle.matching.specs.Laws.Greedy.{Greedy, Chain, greedy-chain, chain-hits, chain-of, chain-pairwise, greedy-longest, greedy-nearest}

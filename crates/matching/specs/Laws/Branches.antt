@@ -1,11 +1,11 @@
--- All occurrences depth first: the rows from a slot on that start at a place, enumerated and counted. It computes fast.
+-- The rows of `Branches` are enumerated rightly: those from a slot on, and, where stops and last places part them rightly, all occurrences.
 use Prim.Native.Nat.{ℕ, zero, suc, _+_, _-_, _≤_, _<_}
 use native.Mathlib.Omega.{arith}
 use mathlib.Core.Path.{_≡_, refl, sym, ap, _∙_}
 use mathlib.Core.Bool.{Bool, true, false, _&&_, and-eq-true-iff}
 use mathlib.Core.List.{List, [], _∷_, map, List·Memᴰ, List·Memᴰ·head, Memᴰ·map}
 use lib.ListN.{length, length-append, length-map}
-use lib.Dec.{leb, ltb, eqb}
+use lib.Dec.{leb, eqb}
 use borrow.Author.Tests.{leb-true, le-leb, eqb-true, eq-eqb}
 use Rattle.basics.specs.Choice.{only, when}
 use Rattle.basics.specs.Collections.{Every, Pairwise, none, more}
@@ -15,6 +15,7 @@ use Rattle.basics.specs.Laws.Sums.{total-same, gather-mem, gather-every}
 use Rattle.pattern.specs.declared.Pattern.{Pattern}
 use Rattle.pattern.specs.Patterns.{slotAt}
 use Rattle.matching.specs.Occurrence.{View, OccursIn, at}
+use Rattle.matching.specs.Branches.{stands, branches, ways}
 use Rattle.matching.specs.Occurrences.{Lex, here, after, places, occurrencesIn, startingIn}
 use Rattle.matching.specs.Laws.Enumeration.{places-mem, places-rise, occurrences-occur, occurrences-iff, occurrences-lex}
 use Rattle.matching.specs.Laws.Ordering.{lex-unique}
@@ -66,70 +67,52 @@ places-between p zero = none
 places-between p (suc n) = more {x = p} (omega arith, omega arith) (every-map (λ q h. (omega arith, omega arith)) (places-between (suc p) n))
 
 module _ (f : Pattern) (v : View) (stop : ℕ → ℕ) (from : ℕ) where
-  -- the slot fits the place, which is short of the slot's stop
-  unfoldable pub stands : ℕ → ℕ → Bool
-  stands j p = ltb p (stop j) && v .fits j p
-
   -- the rows of the slot j and the k after it, the last not before `from`
   pub data Part : ℕ → ℕ → List ℕ → Type 0 where
-    end : {j p : ℕ} → stands j p ≡ true → from ≤ p → Part zero j (p ∷ [])
-    step : {k j p : ℕ} {r : List ℕ} → stands j p ≡ true → p + slotAt f (suc j) .low + 1 ≤ at r 0 → at r 0 ≤ p + slotAt f (suc j) .high + 1
+    end : {j p : ℕ} → stands f v stop from j p ≡ true → from ≤ p → Part zero j (p ∷ [])
+    step : {k j p : ℕ} {r : List ℕ} → stands f v stop from j p ≡ true → p + slotAt f (suc j) .low + 1 ≤ at r 0 → at r 0 ≤ p + slotAt f (suc j) .high + 1
         → Part k (suc j) r → Part (suc k) j (p ∷ r)
 
-  -- all of them that start at the place p
-  unfoldable pub branches : ℕ → ℕ → ℕ → List (List ℕ)
-  branches zero j p = only (stands j p && leb from p) ((p ∷ []) ∷ [])
-  branches (suc k) j p =
-      only (stands j p)
-      (map (λ r. p ∷ r) (gather (branches k (suc j)) (places (p + slotAt f (suc j) .low + 1) (slotAt f (suc j) .high + 1 - slotAt f (suc j) .low))))
-
-  -- and their number
-  unfoldable pub ways : ℕ → ℕ → ℕ → ℕ
-  ways zero j p = when (stands j p && leb from p) 1
-  ways (suc k) j p =
-      when (stands j p)
-      (total (slotAt f (suc j) .high + 1 - slotAt f (suc j) .low) (ways k (suc j)) (p + slotAt f (suc j) .low + 1))
-
-  pub length-branches : (k j p : ℕ) → length (branches k j p) ≡ ways k j p
+  pub length-branches : (k j p : ℕ) → length (branches f v stop from k j p) ≡ ways f v stop from k j p
   unfolding branches ways
-  length-branches zero j p = length-only (stands j p && leb from p) ((p ∷ []) ∷ [])
+  length-branches zero j p = length-only (stands f v stop from j p && leb from p) ((p ∷ []) ∷ [])
   length-branches (suc k) j p =
       let lo = slotAt f (suc j) .low in
       let hi = slotAt f (suc j) .high in
-      let rows = gather (branches k (suc j)) (places (p + lo + 1) (hi + 1 - lo)) in
-      length-only (stands j p) (map (λ r. p ∷ r) rows)
-      ∙ ap (when (stands j p)) (length-map rows (λ r. p ∷ r) ∙ length-gather (branches k (suc j)) (ways k (suc j)) (hi + 1 - lo) (p + lo + 1) (length-branches k (suc j)))
+      let rows = gather (branches f v stop from k (suc j)) (places (p + lo + 1) (hi + 1 - lo)) in
+      length-only (stands f v stop from j p) (map (λ r. p ∷ r) rows)
+      ∙ ap (when (stands f v stop from j p)) (length-map rows (λ r. p ∷ r) ∙ length-gather (branches f v stop from k (suc j)) (ways f v stop from k (suc j)) (hi + 1 - lo) (p + lo + 1) (length-branches k (suc j)))
 
-  branches-start : (k j p : ℕ) → Every (Starts p) (branches k j p)
+  branches-start : (k j p : ℕ) → Every (Starts p) (branches f v stop from k j p)
   unfolding branches
-  branches-start zero j p = only-every (stands j p && leb from p) (λ e. more starts none)
-  branches-start (suc k) j p = only-every (stands j p) (λ e. map-every (λ r. p ∷ r) {P = λ r. Unit {0}} (λ r u. starts)
-      (every-of (λ r. tt) (gather (branches k (suc j)) (places (p + slotAt f (suc j) .low + 1) (slotAt f (suc j) .high + 1 - slotAt f (suc j) .low)))))
+  branches-start zero j p = only-every (stands f v stop from j p && leb from p) (λ e. more starts none)
+  branches-start (suc k) j p = only-every (stands f v stop from j p) (λ e. map-every (λ r. p ∷ r) {P = λ r. Unit {0}} (λ r u. starts)
+      (every-of (λ r. tt) (gather (branches f v stop from k (suc j)) (places (p + slotAt f (suc j) .low + 1) (slotAt f (suc j) .high + 1 - slotAt f (suc j) .low)))))
 
-  branches-lex : (k j p : ℕ) → Pairwise Lex (branches k j p)
+  branches-lex : (k j p : ℕ) → Pairwise Lex (branches f v stop from k j p)
   unfolding branches
-  branches-lex zero j p = only-pairwise (stands j p && leb from p) (more none none)
+  branches-lex zero j p = only-pairwise (stands f v stop from j p && leb from p) (more none none)
   branches-lex (suc k) j p =
-      only-pairwise (stands j p)
-      (map-pairwise (λ r. p ∷ r) (λ r s l. after l) (gather-lex (branches k (suc j)) (branches-start k (suc j)) (branches-lex k (suc j)) (places-rise _ _)))
+      only-pairwise (stands f v stop from j p)
+      (map-pairwise (λ r. p ∷ r) (λ r s l. after l) (gather-lex (branches f v stop from k (suc j)) (branches-start k (suc j)) (branches-lex k (suc j)) (places-rise _ _)))
 
-  branches-part : (k j p : ℕ) → Every (Part k j) (branches k j p)
+  branches-part : (k j p : ℕ) → Every (Part k j) (branches f v stop from k j p)
   unfolding branches
-  branches-part zero j p = only-every (stands j p && leb from p) (λ e. let b = and-eq-true-iff (stands j p) (leb from p) .0 e in more (end (b .0) (leb-true from p (b .1))) none)
+  branches-part zero j p = only-every (stands f v stop from j p && leb from p) (λ e. let b = and-eq-true-iff (stands f v stop from j p) (leb from p) .0 e in more (end (b .0) (leb-true from p (b .1))) none)
   branches-part (suc k) j p =
       let lo = slotAt f (suc j) .low in
       let hi = slotAt f (suc j) .high in
-      only-every (stands j p) (λ e.
+      only-every (stands f v stop from j p) (λ e.
       map-every (λ r. p ∷ r) {P = λ r. Part k (suc j) r × (p + lo + 1 ≤ at r 0) × (at r 0 ≤ p + hi + 1)} (λ r h. step e (h .1) (h .2) (h .0))
-      (gather-every (branches k (suc j))
+      (gather-every (branches f v stop from k (suc j))
       (λ q h. every-map (λ r b. (b .0, omega (arith, starts-at (b .1)), omega (arith, starts-at (b .1)))) (every-both (branches-part k (suc j) q) (branches-start k (suc j) q)))
       (places-between (p + lo + 1) (hi + 1 - lo))))
 
-  part-branch : {k j : ℕ} {r : List ℕ} → Part k j r → List·Memᴰ r (branches k j (at r 0))
+  part-branch : {k j : ℕ} {r : List ℕ} → Part k j r → List·Memᴰ r (branches f v stop from k j (at r 0))
   unfolding branches
-  part-branch (end {j = j} {p = p} e h) = only-mem (and-eq-true-iff (stands j p) (leb from p) .1 (e, le-leb from p h)) (List·Memᴰ·head refl)
+  part-branch (end {j = j} {p = p} e h) = only-mem (and-eq-true-iff (stands f v stop from j p) (leb from p) .1 (e, le-leb from p h)) (List·Memᴰ·head refl)
   part-branch (step {k = k} {j = j} {p = p} {r = r} e l h q) =
-      only-mem e (Memᴰ·map (λ r. p ∷ r) (gather-mem (branches k (suc j)) (places-mem _ _ (at r 0) l (omega arith)) (part-branch q)))
+      only-mem e (Memᴰ·map (λ r. p ∷ r) (gather-mem (branches f v stop from k (suc j)) (places-mem _ _ (at r 0) l (omega arith)) (part-branch q)))
 
   -- ---- what such a row is, slot by slot
 
@@ -137,7 +120,7 @@ module _ (f : Pattern) (v : View) (stop : ℕ → ℕ) (from : ℕ) where
   part-size (end e h) = refl
   part-size (step e l h q) = ap suc (part-size q)
 
-  pub part-stands : {k j : ℕ} {r : List ℕ} → Part k j r → (i : ℕ) → i ≤ k → stands (j + i) (at r i) ≡ true
+  pub part-stands : {k j : ℕ} {r : List ℕ} → Part k j r → (i : ℕ) → i ≤ k → stands f v stop from (j + i) (at r i) ≡ true
   part-stands (end {j = j} e h) zero l = let z : j + 0 ≡ j = omega arith in rw z e
   part-stands (end e h) (suc i) l = absurd (omega arith)
   part-stands (step {j = j} e a b q) zero l = let z : j + 0 ≡ j = omega arith in rw z e
@@ -153,7 +136,7 @@ module _ (f : Pattern) (v : View) (stop : ℕ → ℕ) (from : ℕ) where
   part-last (end e h) = h
   part-last (step e a b q) = part-last q
 
-  pub part-of : (k j : ℕ) (r : List ℕ) → length r ≡ suc k → ((i : ℕ) → i ≤ k → stands (j + i) (at r i) ≡ true)
+  pub part-of : (k j : ℕ) (r : List ℕ) → length r ≡ suc k → ((i : ℕ) → i ≤ k → stands f v stop from (j + i) (at r i) ≡ true)
       → ((i : ℕ) → i < k → (at r i + slotAt f (j + i + 1) .low + 1 ≤ at r (suc i)) × (at r (suc i) ≤ at r i + slotAt f (j + i + 1) .high + 1))
       → from ≤ at r k → Part k j r
   part-of zero j [] e w g l = absurd (omega arith)

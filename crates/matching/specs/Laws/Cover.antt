@@ -10,43 +10,23 @@ use borrow.Author.Tests.{ltb-true, lt-ltb}
 use Rattle.pattern.specs.declared.Pattern.{Pattern}
 use Rattle.matching.specs.Occurrence.{View, OccursIn, at}
 use Rattle.pattern.specs.Patterns.{slotAt}
-use Rattle.matching.specs.Laws.Branches.{stands, Part, part-size, part-stands, part-gap, part-last, part-of, Covers, tree, forest, occurrences-forest, ways, count-forest, starting-tree, count-starting, count-places}
+use Rattle.matching.specs.Spans.{distance, near, far, width, limit, least}
+use Rattle.matching.specs.Branches.{stands, ways}
+use Rattle.matching.specs.Laws.Branches.{Part, part-size, part-stands, part-gap, part-last, part-of, Covers, tree, forest, occurrences-forest, count-forest, starting-tree, count-starting, count-places}
 use Rattle.basics.specs.Sums.{total}
 use Rattle.matching.specs.Occurrences.{occurrencesIn, startingIn}
 
--- the distance from the first place to that at slot k, where the gap before each slot j has `gap j` words
-unfoldable pub distance : (ℕ → ℕ) → ℕ → ℕ
-distance gap zero = 0
-distance gap (suc k) = distance gap k + gap (suc k) + 1
-
 module _ (f : Pattern) where
-  -- the least and the largest distance from the first place to the place at slot k
-  abbrev pub near : ℕ → ℕ
-  near k = distance (λ j. slotAt f j .low) k
-
-  abbrev pub far : ℕ → ℕ
-  far k = distance (λ j. slotAt f j .high) k
-
-  -- the number of places that a row can span, and the slots' stops and the least last place of the rows with the first place p
-  unfoldable pub width : ℕ
-  width = min (f .most) (far (f .count - 1) + 1)
-
-  unfoldable pub limit : View → ℕ → ℕ → ℕ
-  limit v p j = p + min (min width (v .places + 1 - p)) (far j + 1)
-
-  unfoldable pub least : ℕ → ℕ
-  least p = p + f .least - 1
-
   -- the gaps of a row, slot by slot
   abbrev pub Gaps : List ℕ → ℕ → Type 0
   Gaps r k = (i : ℕ) → i < k → (at r i + slotAt f (suc i) .low + 1 ≤ at r (suc i)) × (at r (suc i) ≤ at r i + slotAt f (suc i) .high + 1)
 
-  gaps-near : (r : List ℕ) (k : ℕ) → Gaps r k → (i : ℕ) → i ≤ k → at r 0 + near i ≤ at r i
+  gaps-near : (r : List ℕ) (k : ℕ) → Gaps r k → (i : ℕ) → i ≤ k → at r 0 + near f i ≤ at r i
   unfolding distance
   gaps-near r k g zero h = omega arith
   gaps-near r k g (suc i) h = omega (arith, gaps-near r k g i (omega arith), g i (omega arith))
 
-  gaps-far : (r : List ℕ) (k : ℕ) → Gaps r k → (i : ℕ) → i ≤ k → at r i ≤ at r 0 + far i
+  gaps-far : (r : List ℕ) (k : ℕ) → Gaps r k → (i : ℕ) → i ≤ k → at r i ≤ at r 0 + far f i
   unfolding distance
   gaps-far r k g zero h = omega arith
   gaps-far r k g (suc i) h = omega (arith, gaps-far r k g i (omega arith), g i (omega arith))
@@ -98,22 +78,22 @@ module _ (f : Pattern) where
         }
 
     -- any pattern: each first place with its own stop
-    pub covers-each : 1 ≤ f .least → Covers f v (limit v) least
+    pub covers-each : 1 ≤ f .least → Covers f v (limit f v) (least f)
     unfolding width limit least
     covers-each h = record {
       into = λ r o. let g = occurs-gaps o in let s = o .span in
-          into (limit v (at r 0)) (least (at r 0)) r o
+          into (limit f v (at r 0)) (least f (at r 0)) r o
           (λ i l. let d : i + (f .count - 1 - i) ≡ f .count - 1 = omega arith in
           omega (arith, o .inside i (omega arith), rw d at (gaps-rise r (f .count - 1) g (f .count - 1 - i) i (omega arith)), gaps-far r (f .count - 1) g (f .count - 1) (omega arith), gaps-far r (f .count - 1) g i l))
           (omega arith);
       back = λ r q one inside.
-          let last = part-last f v (limit v (at r 0)) (least (at r 0)) q in
+          let last = part-last f v (limit f v (at r 0)) (least f (at r 0)) q in
           let below = part-below q (f .count - 1) (omega arith) .0 in
           back r q one (λ i. omega arith) (omega arith, omega arith);
     }
 
     -- a pattern whose span limits say nothing: one stop
-    pub covers-all : f .least ≤ near (f .count - 1) + 1 → min (far (f .count - 1) + 1) (v .places) ≤ f .most → Covers f v (λ p j. v .places + 1) (λ p. 0)
+    pub covers-all : f .least ≤ near f (f .count - 1) + 1 → min (far f (f .count - 1) + 1) (v .places) ≤ f .most → Covers f v (λ p j. v .places + 1) (λ p. 0)
     covers-all l m = record {
       into = λ r o. into (λ j. v .places + 1) 0 r o (λ i h. omega (arith, o .inside i (omega arith))) (omega arith);
       back = λ r q one inside. let g = part-gaps q in
@@ -124,22 +104,22 @@ module _ (f : Pattern) where
     -- ---- all occurrences, and how many start at each place
 
     -- every occurrence, depth first: this computes
-    pub occurrences-each : 1 ≤ f .least → occurrencesIn f v ≡ forest f v (limit v) least
-    occurrences-each h = occurrences-forest f v (limit v) least (covers-each h)
+    pub occurrences-each : 1 ≤ f .least → occurrencesIn f v ≡ forest f v (limit f v) (least f)
+    occurrences-each h = occurrences-forest f v (limit f v) (least f) (covers-each h)
 
-    pub tally-each : 1 ≤ f .least → length (occurrencesIn f v) ≡ total (v .places) (λ p. ways f v (limit v p) (least p) (f .count - 1) 0 p) 1
-    tally-each h = count-forest f v (limit v) least (covers-each h)
+    pub tally-each : 1 ≤ f .least → length (occurrencesIn f v) ≡ total (v .places) (λ p. ways f v (limit f v p) (least f p) (f .count - 1) 0 p) 1
+    tally-each h = count-forest f v (limit f v) (least f) (covers-each h)
 
     pub tally-places : 1 ≤ f .least → length (occurrencesIn f v) ≡ total (v .places) (λ p. length (startingIn f v p)) 1
-    tally-places h = count-places f v (limit v) least (covers-each h)
+    tally-places h = count-places f v (limit f v) (least f) (covers-each h)
 
     module _ (p : ℕ) (one : 1 ≤ p) (inside : p ≤ v .places) where
-      pub starting-each : 1 ≤ f .least → startingIn f v p ≡ tree f v (limit v) least p
-      starting-each h = starting-tree f v (limit v) least (covers-each h) p one inside
+      pub starting-each : 1 ≤ f .least → startingIn f v p ≡ tree f v (limit f v) (least f) p
+      starting-each h = starting-tree f v (limit f v) (least f) (covers-each h) p one inside
 
-      pub count-each : 1 ≤ f .least → length (startingIn f v p) ≡ ways f v (limit v p) (least p) (f .count - 1) 0 p
-      count-each h = count-starting f v (limit v) least (covers-each h) p one inside
+      pub count-each : 1 ≤ f .least → length (startingIn f v p) ≡ ways f v (limit f v p) (least f p) (f .count - 1) 0 p
+      count-each h = count-starting f v (limit f v) (least f) (covers-each h) p one inside
 
-      pub count-all : f .least ≤ near (f .count - 1) + 1 → min (far (f .count - 1) + 1) (v .places) ≤ f .most
+      pub count-all : f .least ≤ near f (f .count - 1) + 1 → min (far f (f .count - 1) + 1) (v .places) ≤ f .most
           → length (startingIn f v p) ≡ ways f v (λ j. v .places + 1) 0 (f .count - 1) 0 p
       count-all l m = count-starting f v (λ p j. v .places + 1) (λ p. 0) (covers-all l m) p one inside

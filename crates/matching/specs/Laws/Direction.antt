@@ -6,8 +6,8 @@ use mathlib.Core.List.{List}
 use lib.ListN.{length}
 use lib.Seq.{ext-getD}
 use Rattle.matching.specs.Occurrence.{Apart}
-use Rattle.matching.specs.Rows.{Before, NotAfter, meet, join}
-use Rattle.matching.specs.Laws.Rows.{After, NotBefore, at-meet, at-join}
+use Rattle.matching.specs.Rows.{Before, NotAfter, meet, join, After, NotBefore}
+use Rattle.matching.specs.Laws.Rows.{at-meet, at-join}
 
 -- `r ≺ s`: s stands past r at every slot. `r ≼ s`: s stands nearer than r at no slot. `near r s`: the nearer place at each slot.
 module _ (m : ℕ) (_≺_ _≼_ : List ℕ → List ℕ → Type 0) (near : List ℕ → List ℕ → List ℕ) where

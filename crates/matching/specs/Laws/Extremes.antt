@@ -8,31 +8,19 @@ use mathlib.Core.Option.{none, some}
 use mathlib.Core.List.{List, reverse}
 use lib.Dec.{ltb}
 use Rattle.pattern.specs.declared.Pattern.{Pattern}
-use Rattle.matching.specs.Occurrence.{View, plain, OccursIn, at}
+use Rattle.matching.specs.Occurrence.{View, OccursIn, at}
 use Rattle.basics.specs.Collections.{select}
 use Rattle.matching.specs.Occurrences.{occurrencesIn}
-use Rattle.matching.specs.Rows.{level, Before, NotAfter, before, meet, join}
-use Rattle.matching.specs.Searches.{extreme, earliestOf, latestOf, earliestIn, latestIn}
+use Rattle.matching.specs.Rows.{level, Before, before, meet, join, After}
+use Rattle.matching.specs.Searches.{extreme, earliestOf, latestOf, earliestIn, latestIn, EarliestIn, LatestIn}
 use Rattle.matching.specs.Lists.{follow, leftmostIn, rightmostIn}
 use Rattle.matching.specs.Laws.Tests.{each-same, before-iff}
 use Rattle.matching.specs.Laws.Enumeration.{occurrences-occur, occurrences-iff}
-use Rattle.matching.specs.Laws.Rows.{After, NotBefore}
 use Rattle.matching.specs.Laws.Lattice.{occurs-sublattice}
 use Rattle.matching.specs.Laws.Direction.{forwards, backwards}
-use Rattle.matching.specs.Laws.Greedy.{Nearest, greedy-unique}
+use Rattle.matching.specs.Laws.Greedy.{greedy-unique}
 use Rattle.matching.specs.Laws.Searching.{Searchable, search-some, search-none, some-search, none-search, follow-greedy}
 use Rattle.matching.specs.Laws.Bounding.{Forward, Backward}
-
--- the occurrence past the marks that is earliest at every slot
-abbrev pub EarliestIn : Pattern → View → List ℕ → List ℕ → Type 0
-EarliestIn f v = Nearest (OccursIn f v) (Before (f .count)) (NotAfter (f .count))
-
-abbrev pub Earliest : Pattern → List ℕ → List ℕ → List ℕ → Type 0
-Earliest f t = EarliestIn f (plain f t)
-
--- the occurrence before the marks that is latest at every slot
-abbrev pub LatestIn : Pattern → View → List ℕ → List ℕ → Type 0
-LatestIn f v = Nearest (OccursIn f v) (After (f .count)) (NotBefore (f .count))
 
 -- the front list, and the back list from its last row on
 abbrev pub FrontIn : Pattern → View → List (List ℕ) → Type 0

@@ -6,6 +6,7 @@ use mathlib.Core.List.{List, [], _∷_, _++_}
 use lib.ListN.{length, getD}
 use Rattle.basics.specs.Collections.{Every, Pairwise, none, more}
 use Rattle.basics.specs.Laws.Collections.{every-map}
+use Rattle.matching.specs.Searches.{Nearest}
 use Rattle.matching.specs.Laws.Direction.{Direction}
 
 module _ (Hit : List ℕ → Type 0) (_≺_ : List ℕ → List ℕ → Type 0) where
@@ -17,21 +18,15 @@ module _ (Hit : List ℕ → Type 0) (_≺_ : List ℕ → List ℕ → Type 0) 
 
   module _ (_≼_ : List ℕ → List ℕ → Type 0) where
     infix 40 _≼_
-    -- r is a hit past the marks, and no such hit is nearer at any slot
-    pub record Nearest (marks r : List ℕ) : Type 0 where
-      pub hit : Hit r
-      pub past : marks ≺ r
-      pub least : (s : List ℕ) → Hit s → marks ≺ s → r ≼ s
-
     -- the first row is the nearest hit past the marks, each later one the nearest past the row before, and no hit is past the last
     pub data Greedy : List ℕ → List (List ℕ) → Type 0 where
       done : {marks : List ℕ} → ((s : List ℕ) → Hit s → marks ≺ s → ⊥) → Greedy marks []
-      next : {marks r : List ℕ} {F : List (List ℕ)} → Nearest marks r → Greedy r F → Greedy marks (r ∷ F)
+      next : {marks r : List ℕ} {F : List (List ℕ)} → Nearest Hit _≺_ _≼_ marks r → Greedy r F → Greedy marks (r ∷ F)
 
     -- a greedy list so far, as a loop appends to it: from the marks before its first row to its last row
     pub data Run : List ℕ → List (List ℕ) → List ℕ → Type 0 where
       start : {marks : List ℕ} → Run marks [] marks
-      step : {marks r last : List ℕ} {F : List (List ℕ)} → Nearest marks r → Run r F last → Run marks (r ∷ F) last
+      step : {marks r last : List ℕ} {F : List (List ℕ)} → Nearest Hit _≺_ _≼_ marks r → Run r F last → Run marks (r ∷ F) last
 
 module _ {Hit : List ℕ → Type 0} {_≺_ _≼_ : List ℕ → List ℕ → Type 0} where
   infix 40 _≺_

@@ -8,11 +8,12 @@ use lib.ListN.{length, length-map, length-reverse}
 use Rattle.pattern.specs.declared.Pattern.{Pattern}
 use Rattle.pattern.specs.Patterns.{slotAt}
 use Rattle.matching.specs.Occurrence.{View, OccursIn, at}
-use Rattle.matching.specs.Rows.{level, Before, NotAfter}
+use Rattle.matching.specs.Rows.{level, Before, NotAfter, After, NotBefore}
 use Rattle.matching.specs.Steps.Turning.{seen, flip}
 use Rattle.basics.specs.Laws.Collections.{getD-reverse}
-use Rattle.matching.specs.Laws.Rows.{at-level, After, NotBefore}
-use Rattle.matching.specs.Laws.Greedy.{Nearest, Greedy, done, next, greedy-from}
+use Rattle.matching.specs.Laws.Rows.{at-level}
+use Rattle.matching.specs.Searches.{Nearest}
+use Rattle.matching.specs.Laws.Greedy.{Greedy, done, next, greedy-from}
 use Rattle.matching.specs.Laws.Extremes.{FrontIn, BackIn}
 
 pub length-seen : (b : Bool) (t : List ℕ) → length (seen b t) ≡ length t

@@ -5,18 +5,11 @@ use mathlib.Core.Path.{_≡_, refl}
 use mathlib.Core.List.{List, [], _∷_}
 use lib.ListN.{length, getD-replicate}
 use Rattle.matching.specs.Occurrence.{at, Apart}
-use Rattle.matching.specs.Rows.{level, Before, NotAfter, meet, join}
+use Rattle.matching.specs.Rows.{level, Before, meet, join}
 use Rattle.matching.specs.Laws.Sorting.{Closed, Exchange}
 
 pub at-level : (m p j : ℕ) → j < m → at (level m p) j ≡ p
 at-level m p j h = getD-replicate m j p 0 h
-
--- ---- the order of two rows, seen from the end of the text
-abbrev pub After : ℕ → List ℕ → List ℕ → Type 0
-After m r s = Before m s r
-
-abbrev pub NotBefore : ℕ → List ℕ → List ℕ → Type 0
-NotBefore m r s = NotAfter m s r
 
 -- ---- the earlier place, and the later place, at each slot
 

@@ -23,8 +23,10 @@ use Rattle.matching.specs.Texts.{oneWord, patternOf, text-one, text-thre
 use Rattle.matching.specs.Laws.Tests.{occurs-iff}
 use Rattle.basics.specs.Sums.{gather}
 use Rattle.basics.specs.Choice.{only}
-use Rattle.matching.specs.Laws.Branches.{stands, branches, tree, forest}
-use Rattle.matching.specs.Laws.Cover.{distance, width, limit, least, occurrences-each}
+use Rattle.matching.specs.Branches.{stands, branches}
+use Rattle.matching.specs.Laws.Branches.{tree, forest}
+use Rattle.matching.specs.Spans.{distance, width, limit, least}
+use Rattle.matching.specs.Laws.Cover.{occurrences-each}
 use Rattle.matching.specs.Laws.Extremes.{earliest-none, latest-none}
 use Rattle.matching.specs.Laws.Largest.{largest}
 

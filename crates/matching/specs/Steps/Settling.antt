@@ -9,7 +9,7 @@ use Rattle.pattern.specs.Patterns.{slotAt}
 use Rattle.matching.specs.declared.search.Answer.{Answer}
 use Rattle.matching.specs.Occurrence.{View, OccursIn, at}
 use Rattle.matching.specs.Rows.{Before, NotAfter}
-use Rattle.matching.specs.Laws.Extremes.{EarliestIn, LatestIn}
+use Rattle.matching.specs.Searches.{EarliestIn, LatestIn}
 
 -- what a search needs of a pattern and of the number of places
 pub record Ready (f : Pattern) (n : ℕ) : Type 0 where

@@ -3,7 +3,7 @@ use native.Mathlib.Omega.{arith}
 use Prim.Native.Nat.{_-_, _*_, _≤_}
 use mathlib.Core.Path.{_≡_, refl}
 use lib.ListN.{getD}
-use Rattle.matching.specs.Laws.Cover.{distance}
+use Rattle.matching.specs.Spans.{distance}
 use Rattle.counting.proofs.Distances.{distance-more}
 use borrow.Author.Needs.{needs}
 use Rattle.counting.proofs.gaps.distance.Statement.{statement}

@@ -3,7 +3,7 @@ use Prim.Native.Nat.{_-_, _≤_}
 use native.Mathlib.Omega.{arith}
 use mathlib.Core.Path.{_≡_, refl, _∙_}
 use lib.ListN.{length}
-use Rattle.matching.specs.Laws.Cover.{width}
+use Rattle.matching.specs.Spans.{width}
 use Rattle.counting.specs.Steps.Plans.{Plan, planPattern, planView}
 use Rattle.counting.proofs.Columns.{startRun, Filling, filling-begin, filling-more, filling-skip, column-each}
 use borrow.Author.Needs.{needs}

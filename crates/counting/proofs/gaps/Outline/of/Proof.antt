@@ -2,7 +2,7 @@
 use native.Mathlib.Omega.{arith}
 use Prim.Native.Nat.{_-_, _≤_}
 use mathlib.Core.Path.{_≡_, _∙_}
-use Rattle.matching.specs.Laws.Cover.{near, far, width}
+use Rattle.matching.specs.Spans.{near, far, width}
 use Rattle.counting.proofs.Distances.{bounds-distance, near-bound, far-bound, unbound-is}
 use borrow.Author.Needs.{needs}
 use Rattle.counting.proofs.gaps.Outline.of.Statement.{statement}
