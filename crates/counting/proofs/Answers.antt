@@ -19,7 +19,7 @@ use Rattle.matching.specs.declared.rows.Listed.the-variants.{Rows}
 use Rattle.matching.specs.declared.rows.Listed.the-variants.{Refused as Unlisted}
 use Rattle.counting.specs.declared.halves.Wide.{Wide}
 use Rattle.counting.specs.declared.total.Tallied.the-variants.{Total, Refused}
-use Rattle.counting.specs.Numbers.{value}
+use Rattle.counting.specs.Steps.Numbers.{value}
 use Rattle.counting.specs.Answers.{talliedAfter, allListed, allWritten}
 
 pub tally-over : {v : Verdict} {n : ℕ} → v ≡ Accepted → (w : Wide) → value w ≡ n → 0 < w .hi → Refused Tally ≡ talliedAfter v n

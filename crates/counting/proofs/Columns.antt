@@ -19,8 +19,8 @@ use Rattle.matching.specs.Spans.{width, limit, least}
 use Rattle.matching.specs.Laws.Cover.{count-each, count-all, tally-places}
 use Rattle.counting.specs.declared.gaps.Outline.{Outline}
 use Rattle.counting.specs.declared.window.Window.{Window}
-use Rattle.counting.specs.Inputs.{Input}
-use Rattle.counting.specs.Numbers.{val}
+use Rattle.counting.specs.Steps.Inputs.{Input}
+use Rattle.counting.specs.Steps.Numbers.{val}
 use Rattle.counting.specs.Laws.Bound.{tally-fits}
 use Rattle.counting.specs.Steps.Fits.{Fitted}
 use Rattle.counting.specs.Steps.Plans.{unbound, Outlined, Known, Plan, Run}

@@ -12,14 +12,14 @@ use Rattle.pattern.specs.Patterns.{slotAt}
 use Rattle.pattern.specs.Accepted.{Accepted}
 use Rattle.matching.specs.Occurrence.{View}
 use Rattle.counting.specs.Laws.Inputs.{gaps}
-use Rattle.counting.specs.Inputs.{Input}
+use Rattle.counting.specs.Steps.Inputs.{Input}
 use Rattle.basics.specs.Sums.{total, rest}
 use Rattle.basics.specs.Laws.Sums.{total-same, total-none, run-inside, run-past}
 use Rattle.basics.specs.Choice.{when}
 use Rattle.matching.specs.Branches.{stands, ways}
 use Rattle.matching.specs.Spans.{far}
 use Rattle.counting.specs.Laws.Bound.{total-fits}
-use Rattle.counting.specs.Numbers.{val}
+use Rattle.counting.specs.Steps.Numbers.{val}
 use Rattle.counting.specs.declared.window.Window.{Window}
 use Rattle.counting.specs.Steps.Fits.{fitted, Fitted}
 use Rattle.counting.specs.Steps.Plans.{Handed, Run, runPattern, runView}

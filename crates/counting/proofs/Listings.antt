@@ -19,7 +19,7 @@ use Rattle.matching.specs.Laws.Branches.{length-branches, tree, forest, occurre
 use Rattle.matching.specs.Spans.{width, limit, least}
 use Rattle.matching.specs.Laws.Cover.{covers-all, occurrences-each}
 use Rattle.counting.specs.declared.window.Window.{Window}
-use Rattle.counting.specs.Inputs.{Input}
+use Rattle.counting.specs.Steps.Inputs.{Input}
 use Rattle.counting.specs.Laws.Inputs.{gaps}
 use Rattle.counting.specs.Laws.Runs.{run-one, run-skip, run-more, run-part, length-empty, put-append, put-written}
 use Rattle.counting.specs.Steps.Fits.{Fitted}

@@ -14,7 +14,7 @@ use borrow.Author.Count.{below-more}
 use Rattle.basics.specs.Sums.{total, rest}
 use Rattle.basics.specs.Laws.Sums.{total-split, rest-step}
 use Rattle.basics.specs.Choice.{when}
-use Rattle.counting.specs.Numbers.{val}
+use Rattle.counting.specs.Steps.Numbers.{val}
 use Rattle.counting.specs.Steps.Fits.{fitted}
 use Rattle.counting.specs.Steps.Rows.{Room, Ended, Falling, Spread, Summable, Summed}
 

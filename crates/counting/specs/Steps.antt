@@ -1,4 +1,6 @@
 -- The contracts of the functions inside this crate.
+pub mod Inputs
+pub mod Numbers
 pub mod Fits
 pub mod Plans
 pub mod Rows

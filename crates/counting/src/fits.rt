@@ -3,7 +3,7 @@ use pattern::Slot;
 ghost use Prim.Native.Nat.{_+_, _≤_};
 ghost use lib.ListN.{length};
 ghost use Rattle.matching.specs.Occurrence.{plain, takesAt};
-ghost use Rattle.counting.specs.Inputs.{Input};
+ghost use Rattle.counting.specs.Steps.Inputs.{Input};
 ghost use Rattle.counting.specs.Steps.Fits.{SlotFitted, Fitted};
 
 // Writes which words a slot takes, from the entry `at` on: 1 or 0 for each.

@@ -2,7 +2,7 @@ ghost use mathlib.Core.Path.{_≡_};
 ghost use Prim.Native.Nat.{_+_, _-_, _^_, _<_, _≤_};
 ghost use lib.Dec.{ltb};
 ghost use Rattle.basics.specs.Choice.{pick};
-ghost use Rattle.counting.specs.Numbers.{value};
+ghost use Rattle.counting.specs.Steps.Numbers.{value};
 
 // A number below 2 ^ 128, in two halves.
 pub(crate) struct Wide {

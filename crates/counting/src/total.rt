@@ -15,7 +15,7 @@ ghost use lib.ListN.{length};
 ghost use Rattle.matching.specs.Spans.{width};
 ghost use Rattle.basics.specs.Sums.{total};
 ghost use Rattle.matching.specs.Occurrences.{occurrencesIn};
-ghost use Rattle.counting.specs.Numbers.{value, val};
+ghost use Rattle.counting.specs.Steps.Numbers.{value, val};
 ghost use Rattle.counting.specs.Steps.Plans.{Known, knownView, Plan, planPattern, planView, unbound};
 ghost use Rattle.counting.specs.Steps.Rows.{Room, Blank, Column};
 ghost use Rattle.counting.specs.Answers.{tallied};

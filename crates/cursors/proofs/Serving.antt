@@ -19,7 +19,8 @@ use Rattle.matching.specs.declared.searches.Search.{Search}
 use Rattle.basics.specs.Written.{rowOver}
 use Rattle.cursors.specs.declared.Cursors.{Cursors}
 use Rattle.cursors.specs.declared.Served.{Served}
-use Rattle.cursors.specs.Machine.{servedBy, marksOver, moved, keptBy}
+use Rattle.cursors.specs.Steps.Keeping.{keptBy}
+use Rattle.cursors.specs.Machine.{servedBy, marksOver, moved}
 use Rattle.cursors.specs.declared.Marks.{Marks}
 use Rattle.cursors.specs.Laws.Giving.{first-sixteen}
 

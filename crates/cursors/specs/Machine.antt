@@ -9,7 +9,6 @@ use Rattle.pattern.specs.declared.refusal.Refusal.the-variants.{Client, Served 
 use Rattle.pattern.specs.declared.refusal.Verdict.{Verdict}
 use Rattle.pattern.specs.declared.refusal.Verdict.the-variants.{Accepted, Refused}
 use Rattle.pattern.specs.Tests.{refuse, andThen, inputVerdict}
-use Rattle.matching.specs.declared.searches.Outcome.{Outcome}
 use Rattle.matching.specs.declared.searches.Outcome.the-variants.{Found, Absent, Refused as NotSearched}
 use Rattle.matching.specs.Searches.{earliest}
 use Rattle.matching.specs.Answers.{sixteen}
@@ -54,12 +53,6 @@ unfoldable pub nextVerdict : Pattern → ℕ → ℕ → ℕ → Verdict
 nextVerdict f n client served = andThen (inputVerdict f n) (andThen (clientVerdict client) (refuse (leb 500 served) TooMany Accepted))
 
 -- ---- next
-
--- the state that a search leaves: the second where it found an occurrence
-abbrev pub keptBy : Outcome → Cursors → Cursors → Cursors
-keptBy Found before after = after
-keptBy Absent before after = before
-keptBy (NotSearched why) before after = before
 
 -- what is given where the tests come to the verdict and the search to an occurrence or none
 abbrev pub servedBy : Verdict → Option (List ℕ) → Cursors → ℕ → Served

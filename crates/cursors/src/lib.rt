@@ -13,7 +13,8 @@ ghost use Rattle.pattern.specs.Tests.{inputVerdict};
 ghost use Rattle.pattern.specs.declared.refusal.Verdict.the-variants.{Accepted};
 ghost use Rattle.matching.specs.Searches.{earliest};
 ghost use Rattle.matching.specs.Answers.{searched};
-ghost use Rattle.cursors.specs.Machine.{fresh, marksOver, moved, clientVerdict, nextVerdict, keptBy, nextServed, rewound};
+ghost use Rattle.cursors.specs.Steps.Keeping.{keptBy};
+ghost use Rattle.cursors.specs.Machine.{fresh, marksOver, moved, clientVerdict, nextVerdict, nextServed, rewound};
 
 // How far a client has come: one mark for each slot that a pattern may have.
 #[repr(C)]

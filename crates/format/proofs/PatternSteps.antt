@@ -9,7 +9,8 @@ use borrow.Author.Tests.{le-ltb, lt-ltb}
 use Rattle.pattern.specs.declared.refusal.Refusal.the-variants.{FileLength, Names, Values}
 use Rattle.format.specs.Bytes.{ended, field, fields, lines, value}
 use Rattle.format.specs.Names.{column, columnsOf, leastName, mostName, slotNames, spanNames}
-use Rattle.format.specs.Patterns.{fromNames, fromSlotNames, fromSlots, fromValues, judged, patternContents, patternOf, patternRead, readSlot, refusedPattern, shownPattern, slotLines, slotValues, spanValues}
+use Rattle.format.specs.Steps.ValueLines.{slotLines}
+use Rattle.format.specs.Patterns.{fromNames, fromSlotNames, fromSlots, fromValues, judged, patternContents, patternOf, patternRead, readSlot, refusedPattern, shownPattern, slotValues, spanValues}
 use Rattle.format.specs.declared.layout.Layout.the-variants.{Right, Wrong}
 use Rattle.format.specs.declared.names.Columns.{Columns}
 use Rattle.format.specs.declared.reader.Line.{Line}

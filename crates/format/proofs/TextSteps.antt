@@ -10,9 +10,9 @@ use borrow.Author.Tests.{le-ltb, lt-ltb}
 use Rattle.pattern.specs.declared.refusal.Refusal.{Refusal}
 use Rattle.pattern.specs.declared.refusal.Refusal.the-variants.{FileLength, Names, TextLength, Values, WordListLength}
 use Rattle.format.specs.Bytes.{decimal, ended, isNumber, lines, same}
-use Rattle.format.specs.Layouts.{told}
+use Rattle.format.specs.Steps.ValueLines.{told, wordLines}
 use Rattle.format.specs.Names.{wordName}
-use Rattle.format.specs.Texts.{afterName, ofLines, over, refused, textContents, textRead, textWritten, wordLines, words}
+use Rattle.format.specs.Texts.{afterName, ofLines, over, refused, textContents, textRead, textWritten, words}
 use Rattle.format.specs.declared.layout.Layout.{Layout}
 use Rattle.format.specs.declared.layout.Layout.the-variants.{Right, Wrong}
 use Rattle.format.specs.declared.reader.Line.{Line}

@@ -10,8 +10,3 @@ use Rattle.format.specs.declared.layout.Layout.the-variants.{Right, Wron
 unfoldable pub scan : List (List ℕ) → (List ℕ → Bool) → Bool → ℕ → Layout
 scan [] ok closed n = pick closed (Right n) (Wrong n)
 scan (l ∷ ls) ok closed n = pick (ok l) (scan ls ok closed (n + 1)) (Wrong n)
-
--- how many lines a layout tells
-abbrev pub told : Layout → ℕ
-told (Right n) = n
-told (Wrong n) = n

@@ -1,4 +1,4 @@
--- The text format: what a file's bytes mean, or why they are refused; and what a file that shows something looks like. `Laws` has what follows, first that the two agree.
+-- The text format: what a file's bytes mean, or why they are refused; and what a file that shows something looks like. `Laws` has what follows, first that the two agree; `Steps` the contracts inside.
 pub mod Bytes
 pub mod Lines
 pub mod Layouts
@@ -7,4 +7,5 @@ pub mod Texts
 pub mod Patterns
 pub mod Input
 pub mod Shown
+pub mod Steps
 pub mod Laws

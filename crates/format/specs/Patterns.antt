@@ -36,10 +36,6 @@ slotValues c l =
     false)
     false
 
--- the lines of the slots
-unfoldable pub slotLines : Columns → List ℕ → Layout
-slotLines c s = scan (lines s) (slotValues c) (ended s 10) 0
-
 -- what a slot's line says
 pub record SlotLine : Type 0 where
   pub low : ℕ

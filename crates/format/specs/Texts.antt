@@ -22,10 +22,6 @@ pub data TextContents : Type 0 where
   refused : Refusal → TextContents
   words : List ℕ → TextContents
 
--- the lines of words
-unfoldable pub wordLines : List ℕ → Layout
-wordLines s = scan (lines s) isNumber (ended s 10) 0
-
 abbrev pub afterName : Layout → List (List ℕ) → TextContents
 afterName (Wrong n) ls = refused (Values (n + 2))
 afterName (Right n) ls = words (map decimal ls)

@@ -19,8 +19,8 @@ ghost use mathlib.Core.List.{map};
 ghost use Prim.Native.Nat.{_≤_};
 ghost use lib.ListN.{length, drop};
 ghost use Rattle.format.specs.Bytes.{lines, ended};
-ghost use Rattle.format.specs.Layouts.{told};
-ghost use Rattle.format.specs.Patterns.{slotLines, readSlot, madeSlot, firstSlots, refusedPattern, judged, shownPattern, patternOf, fromSlotNames, fromValues, patternRead};
+ghost use Rattle.format.specs.Steps.ValueLines.{told, slotLines};
+ghost use Rattle.format.specs.Patterns.{readSlot, madeSlot, firstSlots, refusedPattern, judged, shownPattern, patternOf, fromSlotNames, fromValues, patternRead};
 
 // What reading a pattern gives: the pattern that the file shows or, where the file is refused, a new pattern.
 pub struct PatternRead {

@@ -10,7 +10,7 @@ use Rattle.pattern.specs.declared.Pattern.{Pattern}
 use Rattle.basics.specs.Laws.Choice.{is-false}
 use Rattle.matching.specs.Occurrence.{plain, at}
 use Rattle.matching.specs.Occurrences.{occurs}
-use Rattle.hits.specs.Steps.{Decides, Sized, PlaceFits, GapFits, SpanFits, WordsFit, GapsFit}
+use Rattle.hits.specs.Steps.Conditions.{Decides, Sized, PlaceFits, GapFits, SpanFits, WordsFit, GapsFit}
 use Rattle.matching.specs.Laws.Ready.{RowAccepted}
 use Rattle.matching.specs.Laws.Tests.{occurs-iff}
 

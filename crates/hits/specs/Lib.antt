@@ -1,4 +1,4 @@
--- What is answered of a row. `Laws` has what follows.
+-- What is answered of a row. `Laws` has what follows, `Steps` the contracts inside.
 pub mod Answers
 pub mod Steps
 pub mod Laws

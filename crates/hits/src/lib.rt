@@ -8,7 +8,7 @@ use pattern::Verdict;
 ghost use mathlib.Core.Path.{_≡_};
 ghost use Prim.Native.Nat.{_+_, _*_, _<_};
 ghost use Rattle.hits.specs.Answers.{isOccurrence, excerptOf, excerptStart};
-ghost use Rattle.hits.specs.Steps.{Decides, Sized, PlaceFits, GapFits, SpanFits, WordsFit, GapsFit};
+ghost use Rattle.hits.specs.Steps.Conditions.{Decides, Sized, PlaceFits, GapFits, SpanFits, WordsFit, GapsFit};
 
 // Whether a row is an occurrence, or why it is not tested.
 pub enum Tested {

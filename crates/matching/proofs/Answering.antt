@@ -13,8 +13,8 @@ use Rattle.basics.specs.Laws.Arrays.{zeros-at, at-past}
 use Rattle.matching.specs.declared.search.Answer.{Answer}
 use Rattle.matching.specs.Occurrence.{View, plain, at}
 use Rattle.matching.specs.Searches.{earliest, latest}
-use Rattle.matching.specs.Answers.{sixteen, searched, shownAnswer}
-use Rattle.matching.specs.Steps.Settling.{Ready, Reported, Answered, AnsweredBack, Copied, Spare}
+use Rattle.matching.specs.Answers.{sixteen, searched}
+use Rattle.matching.specs.Steps.Settling.{Ready, Reported, Answered, AnsweredBack, Copied, Spare, shownAnswer}
 use Rattle.matching.specs.Steps.Turning.{flip, Flipped}
 use Rattle.matching.specs.Laws.Extremes.{earliest-some, earliest-none, latest-some, latest-none, earliest-same, latest-same}
 use Rattle.matching.specs.Laws.Mirror.{length-flip, Opposite, flip-opposite, Facing, nearest-back, none-back}

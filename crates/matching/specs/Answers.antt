@@ -12,7 +12,6 @@ use Rattle.pattern.specs.declared.refusal.Verdict.{Verdict}
 use Rattle.pattern.specs.declared.refusal.Verdict.the-variants.{Accepted, Refused}
 use Rattle.basics.specs.Choice.{pick}
 use Rattle.pattern.specs.Tests.{refuse, andThen, inputVerdict}
-use Rattle.matching.specs.declared.search.Answer.{Answer}
 use Rattle.matching.specs.declared.searches.Search.{Search}
 use Rattle.matching.specs.declared.searches.Outcome.the-variants.{Found, Absent, Refused as NotSearched}
 use Rattle.matching.specs.declared.rows.Listed.{Listed}
@@ -46,10 +45,6 @@ firstAfter f t marks = searchedBy (rowVerdict f t marks) (earliest f t marks)
 
 abbrev pub lastBefore : Pattern → List ℕ → List ℕ → Search
 lastBefore f t marks = searchedBy (rowVerdict f t marks) (latest f t marks)
-
--- what is made of an answer inside
-abbrev pub shownAnswer : Answer → Search
-shownAnswer a = pick (a .found) (record { outcome = Found; places = a .places }) (record { outcome = Absent; places = replicate 16 0 })
 
 -- ---- the lists
 

@@ -9,8 +9,8 @@ ghost use mathlib.Core.Path.{_≡_};
 ghost use Prim.Native.Nat.{_≤_};
 ghost use lib.ListN.{length};
 ghost use Rattle.matching.specs.Occurrence.{plain};
-ghost use Rattle.matching.specs.Answers.{rowVerdict, shownAnswer, firstAfter, lastBefore};
-ghost use Rattle.matching.specs.Steps.Settling.{Ready, Copied, AnsweredBack};
+ghost use Rattle.matching.specs.Answers.{rowVerdict, firstAfter, lastBefore};
+ghost use Rattle.matching.specs.Steps.Settling.{Ready, Copied, AnsweredBack, shownAnswer};
 
 // What a search comes to.
 pub enum Outcome {

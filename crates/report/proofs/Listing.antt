@@ -29,7 +29,7 @@ use Rattle.matching.specs.declared.rows.Listed.the-variants.{Rows, Refused as N
 use Rattle.counting.specs.Answers.{tallied}
 use Rattle.report.specs.Lines.{tableReport, listsReport, refusalReport}
 use Rattle.report.specs.Report.{afterLists, afterTally, searchReport}
-use Rattle.report.specs.Steps.{Fronted}
+use Rattle.report.specs.Steps.Fronts.{Fronted}
 
 -- as many entries as rows times slots
 entries : (f : Pattern) (t : List ℕ) {R : List (List ℕ)} → Every (Occurs f t) R → length (flat R) ≡ length R * f .count

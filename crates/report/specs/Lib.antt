@@ -1,4 +1,4 @@
--- What the program prints for its input. `Laws` has what follows.
+-- What the program prints for its input. `Laws` has what follows, `Steps` the contracts inside.
 pub mod Files
 pub mod Lines
 pub mod Report

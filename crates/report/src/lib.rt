@@ -21,7 +21,7 @@ ghost use lib.ListN.{length};
 ghost use Rattle.counting.specs.Answers.{tallied};
 ghost use Rattle.basics.specs.Writing.{overlaid, Writes};
 ghost use Rattle.report.specs.Report.{afterTally, searchReport, filesReport, reported};
-ghost use Rattle.report.specs.Steps.{Fronted};
+ghost use Rattle.report.specs.Steps.Fronts.{Fronted};
 
 // Reports the tally, with the front list of so many rows and the back list, which has as many.
 fn tally_report(pattern: Pattern, text: &[u16], rows: usize, front: &[u16], out: &mut [u8]) -> usize

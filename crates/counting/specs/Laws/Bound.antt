@@ -13,7 +13,7 @@ use Rattle.matching.specs.Branches.{ways}
 use Rattle.matching.specs.Spans.{distance, limit, least}
 use Rattle.matching.specs.Laws.Cover.{tally-each}
 use Rattle.counting.specs.Laws.Inputs.{gaps}
-use Rattle.counting.specs.Inputs.{Input}
+use Rattle.counting.specs.Steps.Inputs.{Input}
 use Rattle.matching.specs.Occurrences.{occurrencesIn}
 use lib.ListN.{length}
 

@@ -8,7 +8,7 @@ use Rattle.pattern.specs.Patterns.{slotAt}
 use Rattle.pattern.specs.Tests.{inputVerdict}
 use Rattle.pattern.specs.Laws.Accepting.{input-accepted}
 use Rattle.matching.specs.Occurrence.{View}
-use Rattle.counting.specs.Inputs.{Input}
+use Rattle.counting.specs.Steps.Inputs.{Input}
 
 pub passed : {f : Pattern} (v : View) → inputVerdict f (v .places) ≡ Fine → Input f v
 passed {f} v e = let a = input-accepted f (v .places) .0 e in record { pattern = a .pattern; short = a .short }

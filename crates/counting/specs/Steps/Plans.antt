@@ -13,7 +13,7 @@ use Rattle.matching.specs.Occurrences.{occurrencesIn}
 use Rattle.matching.specs.Spans.{near, far, width}
 use Rattle.counting.specs.declared.gaps.Outline.{Outline}
 use Rattle.counting.specs.declared.window.Window.{Window}
-use Rattle.counting.specs.Inputs.{Input}
+use Rattle.counting.specs.Steps.Inputs.{Input}
 use Rattle.counting.specs.Steps.Fits.{Fitted}
 
 -- the gap before a slot at its widest, or at its least

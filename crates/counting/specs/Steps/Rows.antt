@@ -14,7 +14,7 @@ use Rattle.basics.specs.Choice.{when}
 use Rattle.matching.specs.Branches.{ways}
 use Rattle.matching.specs.Spans.{far}
 use Rattle.counting.specs.declared.window.Window.{Window}
-use Rattle.counting.specs.Numbers.{val}
+use Rattle.counting.specs.Steps.Numbers.{val}
 use Rattle.counting.specs.Steps.Fits.{fitted}
 
 -- room for n numbers and one more

@@ -9,7 +9,7 @@ use Rattle.pattern.specs.declared.refusal.Verdict.the-variants.{Accepted}
 use Rattle.matching.specs.Answers.{rowVerdict}
 use Rattle.matching.specs.Occurrence.{at}
 use Rattle.matching.specs.Laws.Ready.{RowAccepted, row-accepted}
-use Rattle.hits.specs.Steps.{Decides, SpanFits}
+use Rattle.hits.specs.Steps.Conditions.{Decides, SpanFits}
 use Rattle.hits.proofs.Testing.{sized, span-same, no-words, no-gaps, no-span, all-fit}
 use borrow.Author.Needs.{needs}
 use Rattle.hits.proofs.is_occurrence.Statement.{statement}

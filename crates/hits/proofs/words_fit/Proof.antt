@@ -5,7 +5,7 @@ use borrow.Author.Count.{below-none, below-more}
 use borrow.Author.Tests.{not-true, not-false}
 use Rattle.pattern.specs.Patterns.{slotAt}
 use Rattle.matching.specs.Occurrence.{at}
-use Rattle.hits.specs.Steps.{Decides, PlaceFits}
+use Rattle.hits.specs.Steps.Conditions.{Decides, PlaceFits}
 use Rattle.hits.proofs.Testing.{decides-true, decides-false, place-same}
 use borrow.Author.Needs.{needs}
 use Rattle.hits.proofs.words_fit.Statement.{statement}

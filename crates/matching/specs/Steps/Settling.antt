@@ -3,10 +3,13 @@ use Prim.Native.Nat.{ℕ, _+_, _-_, _≤_, _<_}
 use mathlib.Core.List.{List, [], _∷_}
 use mathlib.Core.Bool.{true, false}
 use mathlib.Core.Path.{_≡_}
-use lib.ListN.{length, take}
+use lib.ListN.{length, take, replicate}
+use Rattle.basics.specs.Choice.{pick}
 use Rattle.pattern.specs.declared.Pattern.{Pattern}
 use Rattle.pattern.specs.Patterns.{slotAt}
 use Rattle.matching.specs.declared.search.Answer.{Answer}
+use Rattle.matching.specs.declared.searches.Search.{Search}
+use Rattle.matching.specs.declared.searches.Outcome.the-variants.{Found, Absent}
 use Rattle.matching.specs.Occurrence.{View, OccursIn, at}
 use Rattle.matching.specs.Rows.{Before, NotAfter}
 use Rattle.matching.specs.Searches.{EarliestIn, LatestIn}
@@ -110,3 +113,7 @@ AnsweredBack f v marks = Reported (f .count) (LatestIn f v marks) (NoneBefore f 
 pub record Copied (a b : List ℕ) : Type 0 where
   pub size : length b ≡ 16
   pub same : (j : ℕ) → at b j ≡ at a j
+
+-- an answer as the public searches give it: sixteen places, all 0 where there is none
+abbrev pub shownAnswer : Answer → Search
+shownAnswer a = pick (a .found) (record { outcome = Found; places = a .places }) (record { outcome = Absent; places = replicate 16 0 })

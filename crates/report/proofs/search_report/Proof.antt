@@ -4,7 +4,7 @@ use native.Mathlib.Omega.{arith}
 use mathlib.Core.Path.{sym, _∙_}
 use lib.ListN.{take}
 use borrow.Author.Needs.{needs}
-use Rattle.report.specs.Steps.{Fronted}
+use Rattle.report.specs.Steps.Fronts.{Fronted}
 use Rattle.basics.specs.Laws.Writing.{writes-same}
 use Rattle.report.proofs.Listing.{list-refused, list-found, fronted}
 use Rattle.report.proofs.search_report.Statement.{statement}

@@ -3,7 +3,7 @@ use Prim.Native.Nat.{_-_, _≤_}
 use native.Mathlib.Omega.{arith}
 use mathlib.Core.Path.{_≡_, refl, _∙_}
 use Rattle.basics.specs.Sums.{total}
-use Rattle.counting.specs.Numbers.{value, val}
+use Rattle.counting.specs.Steps.Numbers.{value, val}
 use Rattle.counting.proofs.Loops.{total-more, total-inside}
 use borrow.Author.Needs.{needs}
 use Rattle.counting.proofs.total.sum.Statement.{statement}

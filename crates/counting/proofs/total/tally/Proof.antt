@@ -5,7 +5,7 @@ use lib.ListN.{length, length-replicate}
 use Rattle.pattern.specs.Tests.{inputVerdict}
 use Rattle.pattern.specs.declared.refusal.Verdict.the-variants.{Accepted}
 use Rattle.matching.specs.Occurrence.{plain}
-use Rattle.counting.specs.Inputs.{Input}
+use Rattle.counting.specs.Steps.Inputs.{Input}
 use Rattle.counting.specs.Laws.Inputs.{passed}
 use Rattle.counting.specs.Steps.Plans.{Known}
 use Rattle.counting.proofs.Columns.{long-new, known}

@@ -1,5 +1,5 @@
 -- `counting::window::sums` meets its contract. The invariant: the sums are done from the index i on.
-use Rattle.counting.specs.Numbers.{val}
+use Rattle.counting.specs.Steps.Numbers.{val}
 use Rattle.counting.proofs.Loops.{Summing, sum-begin, sum-fits, sum-more, summed}
 use borrow.Author.Needs.{needs}
 use Rattle.counting.proofs.window.sums.Statement.{statement}

@@ -3,7 +3,7 @@ use native.Mathlib.Omega.{arith}
 use mathlib.Core.Path.{sym, _∙_, ap}
 use lib.ListN.{drop}
 use borrow.Author.Tests.{not-false, not-true}
-use Rattle.format.specs.Layouts.{told}
+use Rattle.format.specs.Steps.ValueLines.{told}
 use Rattle.format.proofs.LineSteps.{Closed, Lined, closed-line, lined, open-line}
 use Rattle.format.proofs.PatternSteps.{names-3-open, names-3-wrong, slots-count, slots-right, slots-wrong}
 use borrow.Author.Needs.{needs}

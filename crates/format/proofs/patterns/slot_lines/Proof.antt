@@ -4,7 +4,8 @@ use native.Mathlib.Omega.{arith}
 use mathlib.Core.Path.{_≡_, refl, sym, _∙_, ap}
 use lib.ListN.{length, drop}
 use borrow.Author.Tests.{not-false, not-true}
-use Rattle.format.specs.Patterns.{slotLines, slotValues}
+use Rattle.format.specs.Steps.ValueLines.{slotLines}
+use Rattle.format.specs.Patterns.{slotValues}
 use Rattle.format.proofs.LineSteps.{Closed, Lined, closed-line, lined, open-line, scan-end, scan-next, scan-open, scan-wrong, scanned}
 use borrow.Author.Needs.{needs}
 use Rattle.format.proofs.patterns.slot_lines.Statement.{statement}

@@ -5,7 +5,7 @@ use mathlib.Core.Path.{_≡_, refl, sym, _∙_, ap}
 use lib.ListN.{length}
 use borrow.Author.Tests.{le-leb, lt-leb}
 use Rattle.format.specs.Bytes.{isNumber}
-use Rattle.format.specs.Texts.{wordLines}
+use Rattle.format.specs.Steps.ValueLines.{wordLines}
 use Rattle.format.proofs.LineSteps.{Closed, Lined, closed-line, lined, open-line, scan-end, scan-next, scan-open, scan-wrong, scanned}
 use borrow.Author.Needs.{needs}
 use Rattle.format.proofs.texts.word_lines.Statement.{statement}

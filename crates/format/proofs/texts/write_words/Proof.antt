@@ -7,7 +7,7 @@ use lib.ListN.{length, drop, set, length-drop, length-set}
 use lib.Seq.{paste}
 use borrow.Author.Tests.{leb-true}
 use Rattle.format.specs.Bytes.{isNumber}
-use Rattle.format.specs.Texts.{wordLines}
+use Rattle.format.specs.Steps.ValueLines.{wordLines}
 use Rattle.format.specs.declared.layout.Layout.the-variants.{Right}
 use Rattle.format.proofs.LineSteps.{Lined, Stepped, left, lined, pasted-all, pasted-more, scanned, stepped, values, values-end, values-next}
 use borrow.Author.Needs.{needs}
