@@ -10,8 +10,8 @@ use Rattle.pattern.specs.declared.refusal.Verdict.the-variants.{Accepted, Refus
 use Rattle.pattern.specs.Refusals.{numberOf, placeOf}
 use Rattle.matching.specs.declared.rows.Listed.{Listed}
 use Rattle.matching.specs.declared.rows.Listed.the-variants.{Rows, Refused as NotListed}
-use Rattle.hits.specs.declared.Tested.{Tested}
-use Rattle.hits.specs.declared.Tested.the-variants.{Yes, No, Refused as NotTested}
+use Rattle.excerpts.specs.declared.Tested.{Tested}
+use Rattle.excerpts.specs.declared.Tested.the-variants.{Yes, No, Refused as NotTested}
 use Rattle.matching.specs.declared.searches.Outcome.{Outcome}
 use Rattle.matching.specs.declared.searches.Outcome.the-variants.{Found as Hit, Absent, Refused as NotSearched}
 use Rattle.matching.specs.declared.searches.Search.{Search}

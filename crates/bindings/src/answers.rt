@@ -1,6 +1,6 @@
 use cursors::Cursors;
+use excerpts::Tested;
 use format::TextRead;
-use hits::Tested;
 use matching::Listed;
 use matching::Outcome;
 use pattern::Pattern;

@@ -6,7 +6,7 @@ use crate::answers::of_tested;
 use matching::Search;
 use pattern::Pattern;
 ghost use mathlib.Core.Path.{_≡_};
-ghost use Rattle.hits.specs.Answers.{isOccurrence, excerptOf};
+ghost use Rattle.excerpts.specs.Answers.{isOccurrence, excerptOf};
 ghost use Rattle.matching.specs.Answers.{firstAfter, lastBefore};
 ghost use Rattle.bindings.specs.Answers.{ofTested, ofSearch, ofExcerpt};
 
@@ -15,7 +15,7 @@ ghost use Rattle.bindings.specs.Answers.{ofTested, ofSearch, ofExcerpt};
 pub extern "C" fn bedbloomer_is_occurrence(pattern: Pattern, text: &[u16], row: &[u16]) -> Answer
     ensures { λ r. ⌜ r ≡ ofTested (isOccurrence pattern (now (text .entry)) (now (row .entry))) ⌝ }
 {
-    of_tested(hits::is_occurrence(pattern, text, row))
+    of_tested(excerpts::is_occurrence(pattern, text, row))
 }
 
 // How long the row's excerpt is, and its word at this index, from 0.
@@ -28,7 +28,7 @@ pub extern "C" fn bedbloomer_excerpt(
 ) -> Excerpted
     ensures { λ r. ⌜ r ≡ ofExcerpt (excerptOf pattern (now (text .entry)) (now (row .entry))) index ⌝ }
 {
-    let words = hits::excerpt(pattern, text, row);
+    let words = excerpts::excerpt(pattern, text, row);
     let length = words.len();
     if index < length {
         return Excerpted {

@@ -165,8 +165,8 @@ module _ {f : Pattern} {v : View} (ok : Input f v) where
       ∙ sym (occurrences-each f v (ok .pattern .some) (ok .pattern .least))
 
   module _ {l : List ℕ} {i rows : ℕ} {l′ : List ℕ} (s : Listing f v l i rows l′) where
-    pub listed : v .places ≤ i → length (occurrencesIn f v) * f .count ≤ length l → l′ ≡ written (f .count) (occurrencesIn f v) l
-    listed h room =
+    pub listing-done : v .places ≤ i → length (occurrencesIn f v) * f .count ≤ length l → l′ ≡ written (f .count) (occurrencesIn f v) l
+    listing-done h room =
         let a = s .inside in
         let e : i ≡ v .places = omega arith in
         s .list ∙ rw (e, each-rows) (put-written (occurrencesIn f v) (f .count) l (every-long f v) room)

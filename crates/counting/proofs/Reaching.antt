@@ -8,16 +8,16 @@ use mathlib.Core.Bool.{Bool, true, false, _&&_}
 use lib.ListN.{length, getD, set, length-set}
 use lib.Seq.{getD-set-same, getD-set-other}
 use lib.Dec.{eqb, leb}
-use Rattle.counting.specs.Steps.Tables.{Least, Reached, leads}
+use Rattle.counting.specs.Steps.Tables.{NextAlive, Reached, leads}
 
 module _ {alive : ℕ → Bool} {n : ℕ} where
-  least-none : n ≤ 20000 → Least alive n n 65535
+  least-none : n ≤ 20000 → NextAlive alive n n 65535
   least-none h = record { past = omega arith; gap = λ x a b c. absurd (omega arith); here = λ c. absurd (omega arith) }
 
-  least-here : (i : ℕ) → i < n → alive i ≡ true → Least alive n i i
+  least-here : (i : ℕ) → i < n → alive i ≡ true → NextAlive alive n i i
   least-here i h e = record { past = omega arith; gap = λ x a b c. absurd (omega arith); here = λ c. (h, e) }
 
-  least-later : {i v : ℕ} → 0 < i → Least alive n i v → alive (i - 1) ≡ false → Least alive n (i - 1) v
+  least-later : {i v : ℕ} → 0 < i → NextAlive alive n i v → alive (i - 1) ≡ false → NextAlive alive n (i - 1) v
   least-later {i} {v} pos s e = record {
     past = omega (arith, s .past);
     gap = λ x a b c. elim (ℕ-discrete x (i - 1)) [ yes q ↦ rw q e | no q ↦ s .gap x (omega arith) b c ];
@@ -28,15 +28,15 @@ module _ {alive : ℕ → Bool} {n : ℕ} where
 pub record Reaching (alive : ℕ → Bool) (n base : ℕ) (N₀ : List ℕ) (i q : ℕ) (N : List ℕ) : Type 0 where
   pub long : length N ≡ length N₀
   pub inside : i ≤ n
-  pub next : Least alive n i q
-  pub row : (k : ℕ) → i ≤ k → k < n → Least alive n k (getD N (base + k) 0)
+  pub next : NextAlive alive n i q
+  pub row : (k : ℕ) → i ≤ k → k < n → NextAlive alive n k (getD N (base + k) 0)
   pub above : (k : ℕ) → base + n < k → getD N k 0 ≡ getD N₀ k 0
 
 pub reach-begin : {alive : ℕ → Bool} {n base : ℕ} {N : List ℕ} → n ≤ 20000 → Reaching alive n base N n 65535 N
 reach-begin h = record { long = refl; inside = omega arith; next = least-none h; row = λ k a b. absurd (omega arith); above = λ k a. refl }
 
 module _ {alive : ℕ → Bool} {n base : ℕ} {N₀ : List ℕ} {i q : ℕ} {N : List ℕ} (s : Reaching alive n base N₀ i q N) (pos : 0 < i) (room : base + n < length N₀) where
-  stored : {v : ℕ} → Least alive n (i - 1) v → Reaching alive n base N₀ (i - 1) v (set N (base + (i - 1)) v)
+  stored : {v : ℕ} → NextAlive alive n (i - 1) v → Reaching alive n base N₀ (i - 1) v (set N (base + (i - 1)) v)
   stored {v} h =
       let a = s .inside in
       let b = s .long in

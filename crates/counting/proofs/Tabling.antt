@@ -18,7 +18,7 @@ use Rattle.matching.specs.Branches.{stands, branches}
 use Rattle.counting.specs.declared.window.Window.{Window}
 use Rattle.counting.specs.Steps.Fits.{fitted, Fitted}
 use Rattle.counting.specs.Steps.Rows.{size, stopAt}
-use Rattle.counting.specs.Steps.Tables.{Least, Reached, ends, leads, Next, rowsOf, Tabled}
+use Rattle.counting.specs.Steps.Tables.{NextAlive, Reached, ends, leads, NextRows, rowsOf, Tabled}
 use Rattle.counting.specs.Steps.Walks.{run}
 use Rattle.counting.specs.Laws.Runs.{run-none, run-some}
 use Rattle.counting.proofs.Counting.{fits-inside, Stage, stage-back, size-less}
@@ -30,7 +30,7 @@ record Tells (alive : ℕ → Bool) (g : ℕ → List (List ℕ)) (n : ℕ) : Ty
   none : (x : ℕ) → x < n → alive x ≡ false → g x ≡ []
   past : (x : ℕ) → n ≤ x → g x ≡ []
 
-told : {alive : ℕ → Bool} {g : ℕ → List (List ℕ)} {n i v : ℕ} → Tells alive g n → Least alive n i v → Next g n i v
+told : {alive : ℕ → Bool} {g : ℕ → List (List ℕ)} {n i v : ℕ} → Tells alive g n → NextAlive alive n i v → NextRows g n i v
 told {alive} {g} {n} {i} {v} s l = record {
   past = l .past;
   gap = λ x a b. elim (decLe n x) [ yes c ↦ s .past x c | no c ↦ s .none x (omega arith) (l .gap x a b (omega arith)) ];
@@ -129,11 +129,11 @@ module _ (f : Pattern) (v : View) (w : Window) where
         }
 
     leads-tells : (k : ℕ) {low high m : ℕ} (N : List ℕ) → low ≡ slotAt f (suc j) .low → high ≡ slotAt f (suc j) .high → high ≤ 63 → size f w j ≤ 20000
-        → ((i : ℕ) → i ≤ m → Next (rows k (suc j)) m i (getD N (j * 20001 + 20001 + i) 0))
+        → ((i : ℕ) → i ≤ m → NextRows (rows k (suc j)) m i (getD N (j * 20001 + 20001 + i) 0))
         → Tells (leads T (j * 20000 + first) low high m (j * 20001) N) (rows (suc k) j) (size f w j)
     leads-tells k {low} {high} {m} N el eh narrow few next =
         let entry : ℕ → ℕ = λ x. getD N (j * 20001 + 20001 + min (x + low + 1) m) 0 in
-        let here : (x : ℕ) → Next (rows k (suc j)) m (min (x + low + 1) m) (entry x) = λ x. next (min (x + low + 1) m) (omega arith) in
+        let here : (x : ℕ) → NextRows (rows k (suc j)) m (min (x + low + 1) m) (entry x) = λ x. next (min (x + low + 1) m) (omega arith) in
         let same : (x : ℕ) → x < size f w j → stands f v stop from j (first + x + 1) ≡ fitted T (j * 20000 + first + x) =
         λ x h. fits-inside f v w fit short x j slot h in
         record {
@@ -189,7 +189,7 @@ module _ {f : Pattern} {v : View} {w : Window} {T : List ℕ} (fit : Fitted f v 
       let d = f .count - 1 - j in
       let el′ : low ≡ slotAt f (suc (j - 1)) .low = rw ej el in
       let eh′ : high ≡ slotAt f (suc (j - 1)) .high = rw ej eh in
-      let next : (i : ℕ) → i ≤ n → Next (rowsOf f v w d (suc (j - 1))) n i (getD N ((j - 1) * 20001 + 20001 + i) 0) = λ i h.
+      let next : (i : ℕ) → i ≤ n → NextRows (rowsOf f v w d (suc (j - 1))) n i (getD N ((j - 1) * 20001 + 20001 + i) 0) = λ i h.
       let at : j * 20001 + i ≡ (j - 1) * 20001 + 20001 + i = omega arith in
       rw (ej, ← at) (rw (← rows) at (c .table .next j (omega arith) inside i (rw (← rows) h))) in
       let tells = leads-tells f v w fit short (j - 1) (omega arith) d N el′ eh′ narrow (omega arith) next in

@@ -7,7 +7,7 @@ use mathlib.Core.Path.{_≡_, refl, sym, ap, _∙_}
 use mathlib.Core.List.{List, [], _∷_, _++_, map, append-assoc}
 use lib.ListN.{length, getD, take, set, length-map, length-append, length-set}
 use lib.Seq.{paste, take-suc-set, take-set-le, take-take}
-use Rattle.counting.specs.Steps.Tables.{Next}
+use Rattle.counting.specs.Steps.Tables.{NextRows}
 use Rattle.counting.specs.Steps.Walks.{run, put, Walk, Walked}
 use Rattle.counting.specs.Laws.Runs.{run-none, run-skip, run-more, run-part, put-append}
 
@@ -70,7 +70,7 @@ module _ {m first : ℕ} {low high N : List ℕ} {j x y done space : ℕ} where
   pub going-begin : (w : Walk m first low high N j x y done space) {row l : List ℕ} {v : ℕ} → v ≡ getD N (j * 20001 + x) 0 → Going w row l v done l
   unfolding put
   going-begin w {row} {l} {v} e =
-      let h : Next (w .rows j) (w .n j) x v = rw e (w .leads .next j (w .slot) x (w .start)) in
+      let h : NextRows (w .rows j) (w .n j) x v = rw e (w .leads .next j (w .slot) x (w .start)) in
       let o = w .order in
       let z = run-none (w .rows j) x v (h .gap) in
       record {
@@ -136,7 +136,7 @@ module _ {m first : ℕ} {low high N : List ℕ} {j x y done space : ℕ} where
 
       -- once the rows are written, the next index is v
       module _ {v : ℕ} (e : v ≡ getD N (j * 20001 + (q + 1)) 0) where
-        following : Next (w .rows j) (w .n j) (q + 1) v
+        following : NextRows (w .rows j) (w .n j) (q + 1) v
         following = let a = going-in .0 in rw e (w .leads .next j (w .slot) (q + 1) (omega arith))
 
         pub going-on : q + 1 ≤ v

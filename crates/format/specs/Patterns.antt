@@ -92,9 +92,9 @@ judgedBy (Refused why) f = refusedPattern why
 abbrev pub judged : Pattern → PatternRead
 judged f = judgedBy (patternVerdict f) f
 
-abbrev pub patternOf : PatternContents → PatternRead
-patternOf (refused why) = refusedPattern why
-patternOf (shown least most ls) = judged (shownPattern least most ls)
+abbrev pub patternAnswer : PatternContents → PatternRead
+patternAnswer (refused why) = refusedPattern why
+patternAnswer (shown least most ls) = judged (shownPattern least most ls)
 
 unfoldable pub patternRead : List ℕ → PatternRead
-patternRead s = pick (ltb 60000 (length s)) (refusedPattern FileLength) (patternOf (patternContents s))
+patternRead s = pick (ltb 60000 (length s)) (refusedPattern FileLength) (patternAnswer (patternContents s))

@@ -36,7 +36,7 @@ pub data Small : List ℕ → Type 0 where
 -- the file shows the words
 pub data TextShows : List ℕ → List ℕ → Type 0 where
   empty : TextShows [] []
-  listed : (ws : List ℕ) → Small ws → TextShows (closed (wordName ∷ map digits ws)) ws
+  headed : (ws : List ℕ) → Small ws → TextShows (closed (wordName ∷ map digits ws)) ws
 
 -- ---- patterns
 

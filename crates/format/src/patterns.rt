@@ -20,7 +20,7 @@ ghost use Prim.Native.Nat.{_≤_};
 ghost use lib.ListN.{length, drop};
 ghost use Rattle.format.specs.Bytes.{lines, ended};
 ghost use Rattle.format.specs.Steps.ValueLines.{told, slotLines};
-ghost use Rattle.format.specs.Patterns.{readSlot, madeSlot, firstSlots, refusedPattern, judged, shownPattern, patternOf, fromSlotNames, fromValues, patternRead};
+ghost use Rattle.format.specs.Patterns.{readSlot, madeSlot, firstSlots, refusedPattern, judged, shownPattern, patternAnswer, fromSlotNames, fromValues, patternRead};
 
 // What reading a pattern gives: the pattern that the file shows or, where the file is refused, a new pattern.
 pub struct PatternRead {
@@ -116,7 +116,7 @@ fn from_slots(s: &[u8], from: usize, c: Columns, n: usize, least: u16, most: u16
 // From the line of the slots' names on.
 fn from_slot_names(s: &[u8], from: usize, least: u16, most: u16) -> PatternRead
     requires { ⌜ from ≤ length (now s) ⌝ }
-    ensures { λ r. ⌜ r ≡ patternOf (fromSlotNames (lines (drop from (now (s .entry)))) least most (ended (drop from (now (s .entry))) 10)) ⌝ }
+    ensures { λ r. ⌜ r ≡ patternAnswer (fromSlotNames (lines (drop from (now (s .entry)))) least most (ended (drop from (now (s .entry))) 10)) ⌝ }
 {
     let line = line_at(s, from);
     let end = line.end;
@@ -139,7 +139,7 @@ fn from_slot_names(s: &[u8], from: usize, least: u16, most: u16) -> PatternRead
 // From the line of the span limits on, with the columns of `least` and `most`.
 fn from_values(s: &[u8], from: usize, i: usize, j: usize) -> PatternRead
     requires { ⌜ from ≤ length (now s) ⌝ }
-    ensures { λ r. ⌜ r ≡ patternOf (fromValues (lines (drop from (now (s .entry)))) i j (ended (drop from (now (s .entry))) 10)) ⌝ }
+    ensures { λ r. ⌜ r ≡ patternAnswer (fromValues (lines (drop from (now (s .entry)))) i j (ended (drop from (now (s .entry))) 10)) ⌝ }
 {
     let line = line_at(s, from);
     let end = line.end;

@@ -15,7 +15,7 @@ use Rattle.matching.specs.Occurrence.{at}
 use Rattle.basics.specs.Written.{rowOver}
 use Rattle.basics.specs.Laws.Lending.{row-pasted}
 use Rattle.matching.specs.Steps.Settling.{Ready}
-use Rattle.matching.specs.Steps.Layout.{LaidSlot, SlotLaid, LaidOut, Plan}
+use Rattle.matching.specs.Steps.Laid.{LaidSlot, SlotLaid, LaidOut, Plan}
 
 -- ---- a slot is laid out
 

@@ -12,7 +12,7 @@ use Rattle.pattern.specs.Patterns.{slotAt}
 use Rattle.matching.specs.Occurrence.{View, OccursIn, at}
 use Rattle.matching.specs.Rows.{NotAfter}
 use Rattle.matching.specs.Steps.Bounds.{First, Least, Between, Prior, Next}
-use Rattle.matching.specs.Steps.Settling.{Ready, Bound, Visited, Placed, Never, slack, Rising, Stable}
+use Rattle.matching.specs.Steps.Settling.{Ready, Bound, Visited, Placed, Never, slack, Raised, Stable}
 
 -- what the ring's neighbours allow is what the other slots allow
 pub bounded : {f : Pattern} {p : List ℕ} {j i k : ℕ} → Prior (f .count) j i → Next (f .count) j k → (z : ℕ)
@@ -78,22 +78,22 @@ slack-set (x ∷ xs) zero v h a b = omega arith
 slack-set (x ∷ xs) (suc j) v h a b = omega (arith, slack-set xs j v (le-of-suc-le-suc h) a b)
 
 module _ {f : Pattern} {v : View} where
-  pub rising-same : (p : List ℕ) → length p ≡ 16 → Rising f v p p
+  pub rising-same : (p : List ℕ) → length p ≡ 16 → Raised f v p p
   unfolding NotAfter
   rising-same p e = record { size = e; above = λ k _. omega arith; rest = λ k _. refl; sound = λ q _ B. B }
 
-  pub placed : {p q : List ℕ} → Rising f v p q → Placed (f .count) p → Placed (f .count) q
+  pub placed : {p q : List ℕ} → Raised f v p q → Placed (f .count) p → Placed (f .count) q
   unfolding NotAfter
   placed A P k h = omega (arith, A .above k h, P k h)
 
-  module _ {p₀ p : List ℕ} {j r : ℕ} (S : Rising f v p₀ p) (W : Visited f v p j r) (l : j < f .count) where
+  module _ {p₀ p : List ℕ} {j r : ℕ} (S : Raised f v p₀ p) (W : Visited f v p j r) (l : j < f .count) where
     pub beyond : (q : List ℕ) → OccursIn f v q → NotAfter (f .count) p₀ q → r ≤ at q j
     beyond q O B = W .least (at q j) (allowed O p j l (S .sound q O B)) (O .fit j l)
 
     pub none : v .places < r → Never f v p₀
     none h q O B = omega (arith, beyond q O B, O .inside j l)
 
-    pub raised : f .count ≤ 16 → Rising f v p₀ (set p j r)
+    pub raised : f .count ≤ 16 → Raised f v p₀ (set p j r)
     unfolding NotAfter
     raised few =
         let z : j < length p = omega (arith, S .size) in

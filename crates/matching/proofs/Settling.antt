@@ -14,11 +14,11 @@ use Rattle.matching.specs.Occurrence.{View, OccursIn, at}
 use Rattle.matching.specs.Rows.{Before, NotAfter}
 use Rattle.matching.specs.Steps.Bounds.{Next}
 use Rattle.matching.proofs.Raising.{rising-same, stable, raised, placed}
-use Rattle.matching.specs.Steps.Settling.{Ready, Visited, Placed, Never, Rising, Stable, Settled, Started, Answered, Spare}
+use Rattle.matching.specs.Steps.Settling.{Ready, Visited, Placed, Never, Raised, Stable, Settled, Started, Answered, Spare}
 
 -- the invariant of the rounds: the slots of the last `calm` visits are stable
 pub record Calm (f : Pattern) (v : View) (p₀ p : List ℕ) (calm j : ℕ) : Type 0 where
-  pub rising : Rising f v p₀ p
+  pub rising : Raised f v p₀ p
   pub slot : j < f .count
   pub within : calm ≤ f .count
   pub near : (k : ℕ) → k < j → j ≤ k + calm → Stable f v p k
@@ -79,7 +79,7 @@ occurs f v p some few pos still =
     }
 
 -- nothing is left to raise
-pub settled : {f : Pattern} {v : View} {p₀ p : List ℕ} → Ready f (v .places) → Placed (f .count) p₀ → Rising f v p₀ p
+pub settled : {f : Pattern} {v : View} {p₀ p : List ℕ} → Ready f (v .places) → Placed (f .count) p₀ → Raised f v p₀ p
     → ((k : ℕ) → k < f .count → Stable f v p k) → Settled f v p₀ (record { found = true; places = p })
 settled {f = f} {v = v} {p = p} ok pos S still =
     record {

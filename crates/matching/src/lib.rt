@@ -1,6 +1,6 @@
 // Finding occurrences of patterns in texts: the searches, the front and back lists, the count. The meanings stand in specs/.
 mod bounds;
-mod layout;
+mod laid;
 mod lists;
 mod mirror;
 mod places;

@@ -1,4 +1,4 @@
-use crate::layout::lay_out;
+use crate::laid::lay_out;
 use crate::mirror::minus;
 use crate::mirror::turned;
 use crate::rows::Listed;
@@ -36,11 +36,11 @@ fn count_rows(g: Pattern, text: &[u16], mirrored: bool) -> usize
     requires { ⌜ Ready g (length (now text)) ⌝ }
     ensures { λ r. ⌜ (r ≡ length (leftmostIn g (viewed mirrored g (now (text .entry))))) × (r ≤ 20000) ⌝ }
 {
-    let layout = lay_out(g);
+    let laid = lay_out(g);
     let mut last = [0u16; 16];
     let mut k: usize = 0;
     loop {
-        if advance(&layout, g.count, g.least, g.most, text, mirrored, &mut last) {
+        if advance(&laid, g.count, g.least, g.most, text, mirrored, &mut last) {
             k += 1;
         } else {
             return k;
@@ -55,11 +55,11 @@ fn write_rows(g: Pattern, text: &[u16], mirrored: bool, list: &mut [u16]) -> usi
     ensures { λ _. ⌜ now (list .exit) ≡ written (g .count) (leftmostIn g (viewed mirrored g (now (text .entry)))) (now (list .entry)) ⌝ }
 {
     let m = g.count;
-    let layout = lay_out(g);
+    let laid = lay_out(g);
     let mut row = [0u16; 16];
     let mut k: usize = 0;
     loop {
-        if advance(&layout, m, g.least, g.most, text, mirrored, &mut row) {
+        if advance(&laid, m, g.least, g.most, text, mirrored, &mut row) {
             let at = k * m;
             put_row(&mut list[at..], &row, m);
             k += 1;

@@ -1,13 +1,13 @@
 use crate::bounds::need;
 use crate::bounds::next;
 use crate::bounds::prior;
-use crate::layout::lay_out;
+use crate::laid::lay_out;
 use crate::places::first;
 use basics::widen;
 use pattern::Pattern;
 ghost use lib.ListN.{length};
 ghost use Rattle.matching.specs.Steps.Settling.{Ready, Visited, Entries, Settled, Started, Answered, Spare};
-ghost use Rattle.matching.specs.Steps.Layout.{Plan, Visitable, Raisable, Searchable, planned};
+ghost use Rattle.matching.specs.Steps.Laid.{Plan, Visitable, Raisable, Searchable, planned};
 ghost use Rattle.matching.specs.Steps.Turning.{viewed};
 
 // Whether there is an occurrence, and then its places, 0 past the pattern's slots.
@@ -18,7 +18,7 @@ pub struct Answer {
 
 // The least place of the slot j that its own, its neighbours and the text's words allow.
 fn visit(
-    layout: &[u16],
+    laid: &[u16],
     m: usize,
     least: u16,
     most: u16,
@@ -27,8 +27,8 @@ fn visit(
     p: &[u16],
     j: usize,
 ) -> usize
-    requires { ⌜ Visitable (length (now text)) m least most (now layout) (now p) j ⌝ }
-    ensures { λ r. ⌜ ((w : Plan (length (now (text .entry))) m least most (now (layout .entry))) → Visited (planned w) (viewed mirrored (planned w) (now (text .entry))) (now (p .entry)) j r) ⌝ }
+    requires { ⌜ Visitable (length (now text)) m least most (now laid) (now p) j ⌝ }
+    ensures { λ r. ⌜ ((w : Plan (length (now (text .entry))) m least most (now (laid .entry))) → Visited (planned w) (viewed mirrored (planned w) (now (text .entry))) (now (p .entry)) j r) ⌝ }
 {
     let i = prior(j, m);
     let k = next(j, m);
@@ -40,17 +40,17 @@ fn visit(
         widen(p[j]),
         widen(p[i]),
         widen(p[k]),
-        widen(layout[at]),
-        widen(layout[after + 1]),
+        widen(laid[at]),
+        widen(laid[after + 1]),
         widen(least),
         widen(most),
     );
-    first(&layout[at..at + 11], text, mirrored, from)
+    first(&laid[at..at + 11], text, mirrored, from)
 }
 
 // Raises the row to the earliest occurrence at or after it, if there is one: the slots are visited in turn until none asks more.
 fn settle(
-    layout: &[u16],
+    laid: &[u16],
     m: usize,
     least: u16,
     most: u16,
@@ -58,15 +58,15 @@ fn settle(
     mirrored: bool,
     p: &mut [u16],
 ) -> bool
-    requires { ⌜ Raisable (length (now text)) m least most (now layout) (now p) ⌝ }
-    ensures { λ r. ⌜ ((w : Plan (length (now (text .entry))) m least most (now (layout .entry))) → Settled (planned w) (viewed mirrored (planned w) (now (text .entry))) (now (p .entry)) (record { found = r; places = now (p .exit) })) ⌝ }
+    requires { ⌜ Raisable (length (now text)) m least most (now laid) (now p) ⌝ }
+    ensures { λ r. ⌜ ((w : Plan (length (now (text .entry))) m least most (now (laid .entry))) → Settled (planned w) (viewed mirrored (planned w) (now (text .entry))) (now (p .entry)) (record { found = r; places = now (p .exit) })) ⌝ }
 {
     let n = text.len();
     let mut calm: usize = 0;
     let mut j: usize = 0;
     while calm < m {
         let k = next(j, m);
-        let q = visit(layout, m, least, most, text, mirrored, p, j);
+        let q = visit(laid, m, least, most, text, mirrored, p, j);
         if n < q {
             return false;
         }
@@ -101,7 +101,7 @@ fn start(m: usize, n: usize, p: &mut [u16]) -> bool
 
 // Raises the row to the earliest occurrence past it, if there is one.
 pub(crate) fn advance(
-    layout: &[u16],
+    laid: &[u16],
     m: usize,
     least: u16,
     most: u16,
@@ -109,11 +109,11 @@ pub(crate) fn advance(
     mirrored: bool,
     p: &mut [u16],
 ) -> bool
-    requires { ⌜ Searchable (length (now text)) m least most (now layout) (now p) ⌝ }
-    ensures { λ r. ⌜ ((w : Plan (length (now (text .entry))) m least most (now (layout .entry))) → Answered (planned w) (viewed mirrored (planned w) (now (text .entry))) (now (p .entry)) (record { found = r; places = now (p .exit) })) ⌝ }
+    requires { ⌜ Searchable (length (now text)) m least most (now laid) (now p) ⌝ }
+    ensures { λ r. ⌜ ((w : Plan (length (now (text .entry))) m least most (now (laid .entry))) → Answered (planned w) (viewed mirrored (planned w) (now (text .entry))) (now (p .entry)) (record { found = r; places = now (p .exit) })) ⌝ }
 {
     if start(m, text.len(), p) {
-        return settle(layout, m, least, most, text, mirrored, p);
+        return settle(laid, m, least, most, text, mirrored, p);
     }
     false
 }
@@ -123,16 +123,8 @@ pub(crate) fn search(f: Pattern, text: &[u16], mirrored: bool, marks: [u16; 16])
     requires { ⌜ Ready f (length (now text)) ⌝ ∗ ⌜ Spare (f .count) marks ⌝ }
     ensures { λ r. ⌜ Answered f (viewed mirrored f (now (text .entry))) marks r ⌝ }
 {
-    let layout = lay_out(f);
+    let laid = lay_out(f);
     let mut places = marks;
-    let found = advance(
-        &layout,
-        f.count,
-        f.least,
-        f.most,
-        text,
-        mirrored,
-        &mut places,
-    );
+    let found = advance(&laid, f.count, f.least, f.most, text, mirrored, &mut places);
     Answer { places, found }
 }

@@ -4,13 +4,13 @@ use mathlib.Core.Path.{_≡_}
 use mathlib.Core.List.{List·Memᴰ}
 use Rattle.pattern.specs.declared.slot.Slot.{Slot}
 use Rattle.pattern.specs.declared.Pattern.{Pattern}
-use Rattle.pattern.specs.Patterns.{listed, slotAt}
+use Rattle.pattern.specs.Patterns.{stated, slotAt}
 
 -- a slot: 1 to 8 words, none of them 0, and a gap within 0 to 63
 pub record AcceptedSlot (s : Slot) : Type 0 where
   pub some : 1 ≤ s .count
   pub few : s .count ≤ 8
-  pub nonzero : List·Memᴰ 0 (listed s) → ⊥
+  pub nonzero : List·Memᴰ 0 (stated s) → ⊥
   pub ordered : s .low ≤ s .high
   pub narrow : s .high ≤ 63
 

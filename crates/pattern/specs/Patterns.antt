@@ -14,12 +14,12 @@ member w [] = false
 member w (x ∷ xs) = eqb x w || member w xs
 
 -- the words that the slot states
-abbrev pub listed : Slot → List ℕ
-listed s = take (s .count) (s .words)
+abbrev pub stated : Slot → List ℕ
+stated s = take (s .count) (s .words)
 
 -- the slot takes the word
 unfoldable pub takes : Slot → ℕ → Bool
-takes s w = member w (listed s)
+takes s w = member w (stated s)
 
 -- what the logic has past the end of an array of slots
 abbrev pub noSlot : Slot

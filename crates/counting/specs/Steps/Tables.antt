@@ -16,14 +16,14 @@ use Rattle.counting.specs.Steps.Rows.{size, stopAt}
 -- ---- one slot's entries, by a test of each index
 
 -- the first index from i on, of the n there are, at which the test holds
-pub record Least (alive : ℕ → Bool) (n i v : ℕ) : Type 0 where
+pub record NextAlive (alive : ℕ → Bool) (n i v : ℕ) : Type 0 where
   pub past : i ≤ v
   pub gap : (x : ℕ) → i ≤ x → x < v → x < n → alive x ≡ false
   pub here : v < 65535 → (v < n) × (alive v ≡ true)
 
 -- the entries from the index `base` on; what stands past them is as it was
 pub record Reached (alive : ℕ → Bool) (n base : ℕ) (N N′ : List ℕ) : Type 0 where
-  pub row : (i : ℕ) → i ≤ n → Least alive n i (getD N′ (base + i) 0)
+  pub row : (i : ℕ) → i ≤ n → NextAlive alive n i (getD N′ (base + i) 0)
   pub above : (k : ℕ) → base + n < k → getD N′ k 0 ≡ getD N k 0
 
 -- the last slot can stand there, at the place `from` or later
@@ -37,7 +37,7 @@ leads T at low high m base N i = fitted T (at + i) && leb (getD N (base + 20001 
 -- ---- the whole table
 
 -- the first index from i on at which there are rows
-pub record Next (g : ℕ → List (List ℕ)) (n i v : ℕ) : Type 0 where
+pub record NextRows (g : ℕ → List (List ℕ)) (n i v : ℕ) : Type 0 where
   pub past : i ≤ v
   pub gap : (x : ℕ) → i ≤ x → x < v → g x ≡ []
   pub here : v < 65535 → (v < n) × (g v ≡ [] → ⊥)
@@ -52,4 +52,4 @@ rowsAt f v w j = rowsOf f v w (f .count - 1 - j) j
 
 -- the entries of slot j and the slots after it
 pub record Tabled (f : Pattern) (v : View) (w : Window) (j : ℕ) (N : List ℕ) : Type 0 where
-  pub next : (a : ℕ) → j ≤ a → a < f .count → (i : ℕ) → i ≤ size f w a → Next (rowsAt f v w a) (size f w a) i (getD N (a * 20001 + i) 0)
+  pub next : (a : ℕ) → j ≤ a → a < f .count → (i : ℕ) → i ≤ size f w a → NextRows (rowsAt f v w a) (size f w a) i (getD N (a * 20001 + i) 0)

@@ -6,7 +6,7 @@ use lib.ListN.{length, getD, take}
 use lib.Seq.{paste}
 use Rattle.basics.specs.Sums.{gather}
 use Rattle.matching.specs.Occurrences.{places}
-use Rattle.counting.specs.Steps.Tables.{Next}
+use Rattle.counting.specs.Steps.Tables.{NextRows}
 
 -- the rows that start at an index from x to y - 1
 unfoldable pub run : (ℕ → List (List ℕ)) → ℕ → ℕ → List (List ℕ)
@@ -24,7 +24,7 @@ pub record Leads (m first : ℕ) (low high N : List ℕ) (n : ℕ → ℕ) (G : 
   pub highs : length high ≡ 16
   pub long : 320016 ≤ length N
   pub inside : (j : ℕ) → j < m → first + n j ≤ 20000
-  pub next : (j : ℕ) → j < m → (i : ℕ) → i ≤ n j → Next (G j) (n j) i (getD N (j * 20001 + i) 0)
+  pub next : (j : ℕ) → j < m → (i : ℕ) → i ≤ n j → NextRows (G j) (n j) i (getD N (j * 20001 + i) 0)
   pub last : (j : ℕ) → j + 1 ≡ m → (x : ℕ) → (G j x ≡ [] → ⊥) → G j x ≡ ((first + x + 1) ∷ []) ∷ []
   pub step : (j : ℕ) → j + 1 < m → (x : ℕ) → (G j x ≡ [] → ⊥)
       → G j x ≡ map (λ r. (first + x + 1) ∷ r) (run (G (j + 1)) (x + getD low (j + 1) 0 + 1) (x + getD high (j + 1) 0 + 1 + 1))

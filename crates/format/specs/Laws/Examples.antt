@@ -12,7 +12,7 @@ use Rattle.format.specs.Bytes.{allNumbers, decimal, ended, lines, more, 
 use Rattle.format.specs.Layouts.{scan}
 use Rattle.format.specs.Names.{column, highName, leastName, lowName, mostName, wordName, wordsName}
 use Rattle.format.specs.Texts.{textAnswer, textContents, textRead, textWritten, words}
-use Rattle.format.specs.Patterns.{patternContents, patternOf, patternRead, refusedPattern, shownPattern, slotValues}
+use Rattle.format.specs.Patterns.{patternContents, patternAnswer, patternRead, refusedPattern, shownPattern, slotValues}
 use Rattle.format.specs.Input.{inputRead, refusedInput}
 use Rattle.basics.specs.Digits.{digitsIn}
 use Rattle.format.specs.Shown.{closed, digits, joined}
@@ -76,7 +76,7 @@ unfolding patternRead textRead
 row-12 s room e = (rw e, rw e)
 
 -- and none of 60,000 bytes
-row-12-not : (s : List ℕ) (room : ℕ) → length s ≡ 60000 → (patternRead s ≡ patternOf (patternContents s)) × (textRead s room ≡ textAnswer (textContents s) room)
+row-12-not : (s : List ℕ) (room : ℕ) → length s ≡ 60000 → (patternRead s ≡ patternAnswer (patternContents s)) × (textRead s room ≡ textAnswer (textContents s) room)
 unfolding patternRead textRead
 row-12-not s room e = (rw e, rw e)
 

@@ -20,7 +20,7 @@ use Rattle.pattern.specs.declared.refusal.Verdict.the-variants.{Accepted as Fin
 use Rattle.pattern.specs.Accepted.{Accepted}
 use Rattle.format.specs.Texts.{TextContents, over, textAnswer, textContents, textRead, textWritten, words}
 use Rattle.format.specs.Texts.{refused as noWords}
-use Rattle.format.specs.Patterns.{PatternContents, SlotLine, judgedBy, patternContents, patternOf, patternRead, refused, refusedPattern, shown, shownPattern}
+use Rattle.format.specs.Patterns.{PatternContents, SlotLine, judgedBy, patternContents, patternAnswer, patternRead, refused, refusedPattern, shown, shownPattern}
 use Rattle.format.specs.Shown.{PatternShows, TextShows}
 use Rattle.format.specs.declared.patterns.PatternRead.{PatternRead}
 use Rattle.format.specs.declared.texts.TextRead.the-variants.{Words}
@@ -56,7 +56,7 @@ judged-fine : (v : Verdict) (g f : Pattern) → judgedBy v g ≡ accepted f → 
 judged-fine Fine g f e = (refl, pattern-in e)
 judged-fine (Refused why) g f e = absurd (refused-fine (verdict-of e))
 
-contents-shown : (s : List ℕ) (f : Pattern) → length s ≤ 60000 → (c : PatternContents) → patternContents s ≡ c → patternOf c ≡ accepted f → ShowsPattern s f
+contents-shown : (s : List ℕ) (f : Pattern) → length s ≤ 60000 → (c : PatternContents) → patternContents s ≡ c → patternAnswer c ≡ accepted f → ShowsPattern s f
 contents-shown s f h (refused why) e q = absurd (refused-fine (verdict-of q))
 contents-shown s f h (shown least most ls) e q =
     let r = judged-fine (patternVerdict (shownPattern least most ls)) (shownPattern least most ls) f q in
@@ -74,7 +74,7 @@ read-shows : (s : List ℕ) (f : Pattern) → patternRead s ≡ accepted f → S
 unfolding patternRead
 read-shows s f e = go (ltb 60000 (length s)) refl e
   where
-    go : (x : Bool) → ltb 60000 (length s) ≡ x → pick x (refusedPattern FileLength) (patternOf (patternContents s)) ≡ accepted f → ShowsPattern s f
+    go : (x : Bool) → ltb 60000 (length s) ≡ x → pick x (refusedPattern FileLength) (patternAnswer (patternContents s)) ≡ accepted f → ShowsPattern s f
     go true t q = absurd (refused-fine (verdict-of q))
     go false t q = contents-shown s f (ltb-false 60000 (length s) t) (patternContents s) refl q
 

@@ -13,7 +13,7 @@ use Rattle.format.specs.Bytes.{decimal, ended, isNumber, lines, same}
 use Rattle.format.specs.Layouts.{scan}
 use Rattle.format.specs.Names.{wordName}
 use Rattle.format.specs.Texts.{afterName, ofLines, refused, textContents, words}
-use Rattle.format.specs.Shown.{Small, TextShows, also, closed, digits, empty, listed, none}
+use Rattle.format.specs.Shown.{Small, TextShows, also, closed, digits, empty, headed, none}
 use Rattle.format.specs.declared.layout.Layout.{Layout}
 use Rattle.format.specs.declared.layout.Layout.the-variants.{Right, Wrong}
 use Rattle.format.specs.Laws.Fields.{same-eq}
@@ -43,7 +43,7 @@ numbers-shown (right-line {l = l} {ls = ls} h r) =
 shows-text : {s ws : List ℕ} → TextShows s ws → textContents s ≡ words ws
 unfolding textContents closed same lines ended
 shows-text empty = refl
-shows-text (listed ws h) = rw (lines-closed (all-digits 10 (omega arith) ws), ended-closed (map digits ws)) (rw (scan-right (map digits ws) isNumber 0 (numbers-right h)) (ap words (numbers-read h)))
+shows-text (headed ws h) = rw (lines-closed (all-digits 10 (omega arith) ws), ended-closed (map digits ws)) (rw (scan-right (map digits ws) isNumber 0 (numbers-right h)) (ap words (numbers-read h)))
 
 -- ---- what is read is shown
 
@@ -59,7 +59,7 @@ module _ (s ws : List ℕ) (l : List ℕ) (ls : List (List ℕ)) (el : lines s �
       let shape : closed (wordName ∷ map digits ws) ≡ s =
       ap (λ (k : List ℕ). closed (wordName ∷ map digits k)) (sym w) ∙ ap (λ (k : List (List ℕ)). closed (wordName ∷ k)) (sym (numbers-shown r))
       ∙ ap (λ (k : List ℕ). closed (k ∷ ls)) (sym n) ∙ ap closed (sym el) ∙ closed-read s 10 c in
-      subst (λ (k : List ℕ). TextShows k ws) shape (listed ws (subst Small w (numbers-small r)))
+      subst (λ (k : List ℕ). TextShows k ws) shape (headed ws (subst Small w (numbers-small r)))
 
   with-layout : l ≡ wordName → (y : Layout) → scan ls isNumber (ended s 10) 0 ≡ y → afterName y ls ≡ words ws → TextShows s ws
   with-layout n (Wrong k) q e = absurd (refused-words _ ws e)

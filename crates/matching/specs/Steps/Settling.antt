@@ -59,7 +59,7 @@ slack [] = 0
 slack (x ∷ xs) = (20001 - x) + slack xs
 
 -- the row q is the row p with some places raised, and no occurrence is left behind
-pub record Rising (f : Pattern) (v : View) (p q : List ℕ) : Type 0 where
+pub record Raised (f : Pattern) (v : View) (p q : List ℕ) : Type 0 where
   pub size : length q ≡ 16
   pub above : NotAfter (f .count) p q
   pub rest : (j : ℕ) → f .count ≤ j → at q j ≡ at p j

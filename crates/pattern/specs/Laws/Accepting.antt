@@ -16,7 +16,7 @@ use Rattle.pattern.specs.declared.refusal.Refusal.the-variants.{SlotCoun
 use Rattle.pattern.specs.declared.refusal.Verdict.{Verdict}
 use Rattle.pattern.specs.declared.refusal.Verdict.the-variants.{Refused}
 use Rattle.pattern.specs.declared.refusal.Verdict.the-variants.{Accepted as Fine}
-use Rattle.pattern.specs.Patterns.{member, listed, takes, slotAt}
+use Rattle.pattern.specs.Patterns.{member, stated, takes, slotAt}
 use Rattle.pattern.specs.Tests.{refuse, andThen, widestGap, slotVerdict, slotsVerdict, spanVerdict, patternVerdict, inputVerdict}
 use Rattle.pattern.specs.Accepted.{AcceptedSlot, Accepted, AcceptedInput}
 use Rattle.pattern.specs.Laws.Members.{member-true, mem-member}
@@ -43,11 +43,11 @@ accepted-then (Refused why) later e f = absurd (refused-fine e)
 
 -- ---- a slot
 
-takes-zero : (s : Slot) → (takes s 0 ≡ false) ↔ (List·Memᴰ 0 (listed s) → ⊥)
+takes-zero : (s : Slot) → (takes s 0 ≡ false) ↔ (List·Memᴰ 0 (stated s) → ⊥)
 unfolding takes
 takes-zero s = (
   λ e m. true≢false (sym (mem-member m) ∙ e),
-  λ n. is-false (member 0 (listed s)) (λ e. n (member-true 0 (listed s) e)),
+  λ n. is-false (member 0 (stated s)) (λ e. n (member-true 0 (stated s) e)),
 )
 
 -- 0 before the first slot, 63 before a later one

@@ -3,7 +3,7 @@ use mathlib.Core.Path.{ap, _≡_}
 use mathlib.Core.List.{List}
 use Prim.Native.Nat.{ℕ}
 use Rattle.bindings.specs.Answers.{ofExcerpt}
-use Rattle.hits.specs.Answers.{excerptOf}
+use Rattle.excerpts.specs.Answers.{excerptOf}
 use lib.ListN.{length, List·getD-eq-default}
 use native.Mathlib.Omega.{arith}
 use borrow.Author.Needs.{needs}

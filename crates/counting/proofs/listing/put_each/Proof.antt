@@ -10,7 +10,7 @@ use Rattle.counting.specs.Steps.Tables.{rowsAt}
 use Rattle.counting.specs.Steps.Walks.{Leads}
 use Rattle.counting.proofs.Columns.{startAt, startRun}
 use Rattle.counting.proofs.Distances.{span-some}
-use Rattle.counting.proofs.Listings.{leading, Listing, listing-begin, listing-skip, window-walk, listing-more, listed}
+use Rattle.counting.proofs.Listings.{leading, Listing, listing-begin, listing-skip, window-walk, listing-more, listing-done}
 use borrow.Author.Needs.{needs}
 use Rattle.counting.proofs.listing.put_each.Statement.{statement}
 use Rattle.counting.proofs.listing.put_each.Tie as tie
@@ -134,7 +134,7 @@ same-length-2 : tie.Need-same-length-2 Inv-loop μ-loop
 same-length-2 c = c .before .loop .inv .2
 
 returns : tie.Need-returns Inv-loop μ-loop
-returns c = λ g. listed (g .plan .handed .input) (c .before .loop .inv .3 g) (c .loop-test .left) (g .room)
+returns c = λ g. listing-done (g .plan .handed .input) (c .before .loop .inv .3 g) (c .loop-test .left) (g .room)
 
 pub put-each-spec : {M : Type 1} → statement M
 put-each-spec =

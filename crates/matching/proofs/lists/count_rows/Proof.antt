@@ -3,7 +3,7 @@ use native.Mathlib.Omega.{arith}
 use Prim.Native.Nat.{_-_, _≤_}
 use Rattle.pattern.specs.declared.Pattern.{Pattern}
 use Rattle.matching.specs.Occurrence.{View, at}
-use Rattle.matching.specs.Steps.Layout.{Plan}
+use Rattle.matching.specs.Steps.Laid.{Plan}
 use Rattle.matching.specs.Steps.Settling.{Ready, Answered}
 use Rattle.matching.specs.Steps.Turning.{viewed}
 use Rattle.matching.proofs.Laying.{plan}
@@ -13,10 +13,10 @@ use Rattle.matching.proofs.lists.count_rows.Statement.{statement}
 use Rattle.matching.proofs.lists.count_rows.Tie as tie
 
 abbrev Inv-loop : tie.InvT-loop
-Inv-loop g text mirrored layout row₀ k₀ row k = Counted g (viewed mirrored g text) row k
+Inv-loop g text mirrored laid row₀ k₀ row k = Counted g (viewed mirrored g text) row k
 
 abbrev μ-loop : tie.MeasureT-loop
-μ-loop g text mirrored layout row₀ k₀ row k = 20001 - at row 0
+μ-loop g text mirrored laid row₀ k₀ row k = 20001 - at row 0
 
 -- ---- the places of the body
 

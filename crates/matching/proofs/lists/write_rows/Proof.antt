@@ -9,7 +9,7 @@ use borrow.Rule.Slice.PartMut.{putMid}
 use Rattle.pattern.specs.declared.Pattern.{Pattern}
 use Rattle.matching.specs.Occurrence.{View, at}
 use Rattle.basics.specs.Laws.Lending.{row-pasted}
-use Rattle.matching.specs.Steps.Layout.{Plan}
+use Rattle.matching.specs.Steps.Laid.{Plan}
 use Rattle.matching.specs.Steps.Listing.{Room}
 use Rattle.matching.specs.Steps.Settling.{Answered}
 use Rattle.matching.specs.Steps.Turning.{viewed}
@@ -21,10 +21,10 @@ use Rattle.matching.proofs.lists.write_rows.Statement.{statement}
 use Rattle.matching.proofs.lists.write_rows.Tie as tie
 
 abbrev Inv-loop : tie.InvT-loop
-Inv-loop g text mirrored list₀ m layout row₀ k₀ list row k = Writing g (viewed mirrored g text) list₀ list row k
+Inv-loop g text mirrored list₀ m laid row₀ k₀ list row k = Writing g (viewed mirrored g text) list₀ list row k
 
 abbrev μ-loop : tie.MeasureT-loop
-μ-loop g text mirrored list₀ m layout row₀ k₀ list row k = 20001 - at row 0
+μ-loop g text mirrored list₀ m laid row₀ k₀ list row k = 20001 - at row 0
 
 -- ---- the places of the body
 

@@ -4,7 +4,7 @@ use native.Mathlib.Omega.{arith}
 use Rattle.pattern.specs.declared.Pattern.{Pattern}
 use Rattle.matching.specs.Occurrence.{View}
 use Rattle.matching.specs.Steps.Turning.{viewed}
-use Rattle.matching.specs.Steps.Layout.{planned}
+use Rattle.matching.specs.Steps.Laid.{planned}
 use Rattle.matching.proofs.Settling.{answered, unanswered}
 use borrow.Author.Needs.{needs}
 use Rattle.matching.proofs.search.advance.Statement.{statement}

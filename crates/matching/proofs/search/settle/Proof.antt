@@ -9,16 +9,16 @@ use Rattle.matching.proofs.Settling.{Calm, calm-begin, calm-same, calm-
 use Rattle.matching.specs.Occurrence.{View}
 use Rattle.matching.specs.Steps.Turning.{viewed}
 use Rattle.matching.specs.Steps.Settling.{slack}
-use Rattle.matching.specs.Steps.Layout.{Plan, Raisable, planned}
+use Rattle.matching.specs.Steps.Laid.{Plan, Raisable, planned}
 use borrow.Author.Needs.{needs}
 use Rattle.matching.proofs.search.settle.Statement.{statement}
 use Rattle.matching.proofs.search.settle.Tie as tie
 
 abbrev Inv-loop : tie.InvT-loop
-Inv-loop layout m least most text mirrored p₀ n calm₀ j₀ p calm j = (w : Plan (length text) m least most layout) → Calm (planned w) (viewed mirrored (planned w) text) p₀ p calm j
+Inv-loop laid m least most text mirrored p₀ n calm₀ j₀ p calm j = (w : Plan (length text) m least most laid) → Calm (planned w) (viewed mirrored (planned w) text) p₀ p calm j
 
 abbrev μ-loop : tie.MeasureT-loop
-μ-loop layout m least most text mirrored p₀ n calm₀ j₀ p calm j = 17 * slack p + (m - calm)
+μ-loop laid m least most text mirrored p₀ n calm₀ j₀ p calm j = 17 * slack p + (m - calm)
 
 -- ---- the places of the body
 
@@ -43,7 +43,7 @@ visit-at c = c .before .before .before
 -- ---- what is known there: the pattern, the text as it is read, and what the visits so far come to
 
 abbrev given : (c : tie.At-loop Inv-loop μ-loop)
-    → Raisable (length (start c .args .text .now)) (start c .args .m) (start c .args .least) (start c .args .most) (start c .args .layout .now) (start c .args .p .now)
+    → Raisable (length (start c .args .text .now)) (start c .args .m) (start c .args .least) (start c .args .most) (start c .args .laid .now) (start c .args .p .now)
 given c = start c .pre
 
 abbrev f : tie.At-loop Inv-loop μ-loop → Pattern

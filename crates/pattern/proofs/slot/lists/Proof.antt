@@ -1,4 +1,4 @@
--- `pattern::slot::lists` meets its contract. The invariant: the word is listed exactly if it is listed from entry i on.
+-- `pattern::slot::lists` meets its contract. The invariant: the word is stated exactly if it is stated from entry i on.
 use native.Mathlib.Omega.{arith}
 use Prim.Native.Nat.{_≤_, _-_}
 use mathlib.Core.Path.{_≡_, refl, sym, _∙_}
