@@ -7,16 +7,16 @@ use pattern::Pattern;
 ghost use mathlib.Core.Path.{_≡_};
 ghost use lib.ListN.{length};
 ghost use Rattle.pattern.specs.Tests.{inputVerdict};
-ghost use Rattle.matching.specs.Lists.{leftmost, rightmost};
-ghost use Rattle.matching.specs.Answers.{listed, filled, counted};
+ghost use Rattle.matching.specs.Lists.{leftmost};
+ghost use Rattle.matching.specs.Answers.{frontListed, frontWritten, backListed, backWritten, counted};
 ghost use Rattle.counting.specs.Answers.{tallied, allListed, allWritten};
 ghost use Rattle.bindings.specs.Answers.{ofListed, ofTallied};
 
 // The front list.
 #[no_mangle]
 pub extern "C" fn bedbloomer_leftmost(pattern: Pattern, text: &[u16], list: &mut [u16]) -> Answer
-    ensures { λ r. ⌜ r ≡ ofListed (listed (inputVerdict pattern (length (now (text .entry)))) (pattern .count) (leftmost pattern (now (text .entry))) (length (now (list .entry)))) ⌝ }
-    ensures { λ _. ⌜ now (list .exit) ≡ filled (inputVerdict pattern (length (now (text .entry)))) (pattern .count) (leftmost pattern (now (text .entry))) (now (list .entry)) ⌝ }
+    ensures { λ r. ⌜ r ≡ ofListed (frontListed pattern (now (text .entry)) (length (now (list .entry)))) ⌝ }
+    ensures { λ _. ⌜ now (list .exit) ≡ frontWritten pattern (now (text .entry)) (now (list .entry)) ⌝ }
 {
     let leftmost = matching::leftmost(pattern, text, list);
     of_listed(leftmost)
@@ -25,8 +25,8 @@ pub extern "C" fn bedbloomer_leftmost(pattern: Pattern, text: &[u16], list: &mut
 // The back list.
 #[no_mangle]
 pub extern "C" fn bedbloomer_rightmost(pattern: Pattern, text: &[u16], list: &mut [u16]) -> Answer
-    ensures { λ r. ⌜ r ≡ ofListed (listed (inputVerdict pattern (length (now (text .entry)))) (pattern .count) (rightmost pattern (now (text .entry))) (length (now (list .entry)))) ⌝ }
-    ensures { λ _. ⌜ now (list .exit) ≡ filled (inputVerdict pattern (length (now (text .entry)))) (pattern .count) (rightmost pattern (now (text .entry))) (now (list .entry)) ⌝ }
+    ensures { λ r. ⌜ r ≡ ofListed (backListed pattern (now (text .entry)) (length (now (list .entry)))) ⌝ }
+    ensures { λ _. ⌜ now (list .exit) ≡ backWritten pattern (now (text .entry)) (now (list .entry)) ⌝ }
 {
     let rightmost = matching::rightmost(pattern, text, list);
     of_listed(rightmost)

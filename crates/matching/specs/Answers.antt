@@ -58,7 +58,23 @@ abbrev pub filled : Verdict → ℕ → List (List ℕ) → List ℕ → List �
 filled Accepted m R l = pick (ltb (length l) (length R * m)) l (written m R l)
 filled (Refused why) m R l = l
 
--- the count alone
+-- the answer for the front list (document 01: front list), for a list of n entries
+abbrev pub frontListed : Pattern → List ℕ → ℕ → Listed
+frontListed f t n = listed (inputVerdict f (length t)) (f .count) (leftmost f t) n
+
+-- the caller's list at the end
+abbrev pub frontWritten : Pattern → List ℕ → List ℕ → List ℕ
+frontWritten f t l = filled (inputVerdict f (length t)) (f .count) (leftmost f t) l
+
+-- the answer for the back list (document 01: back list), for a list of n entries
+abbrev pub backListed : Pattern → List ℕ → ℕ → Listed
+backListed f t n = listed (inputVerdict f (length t)) (f .count) (rightmost f t) n
+
+-- the caller's list at the end
+abbrev pub backWritten : Pattern → List ℕ → List ℕ → List ℕ
+backWritten f t l = filled (inputVerdict f (length t)) (f .count) (rightmost f t) l
+
+-- the count alone (document 01: count)
 abbrev pub counted : Verdict → List (List ℕ) → Listed
 counted Accepted R = Rows (length R)
 counted (Refused why) R = NotListed why

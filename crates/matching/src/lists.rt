@@ -13,9 +13,9 @@ ghost use mathlib.Core.List.{_++_};
 ghost use Prim.Native.Nat.{_≤_};
 ghost use lib.ListN.{length, take, drop};
 ghost use Rattle.pattern.specs.Tests.{inputVerdict};
-ghost use Rattle.matching.specs.Lists.{leftmost, leftmostIn, rightmost};
+ghost use Rattle.matching.specs.Lists.{leftmost, leftmostIn};
 ghost use Rattle.basics.specs.Written.{written};
-ghost use Rattle.matching.specs.Answers.{listed, filled, counted, Best};
+ghost use Rattle.matching.specs.Answers.{listed, filled, frontListed, frontWritten, backListed, backWritten, counted, Best};
 ghost use Rattle.matching.specs.Steps.Settling.{Ready, Entries};
 ghost use Rattle.matching.specs.Steps.Turning.{viewed, flip};
 ghost use Rattle.matching.specs.Steps.Listing.{Faces, Room, shownRows, stored};
@@ -126,8 +126,8 @@ fn fill(pattern: Pattern, text: &[u16], mirrored: bool, list: &mut [u16]) -> Lis
 
 // The front list: each row the earliest occurrence past the row before.
 pub fn leftmost(pattern: Pattern, text: &[u16], list: &mut [u16]) -> Listed
-    ensures { λ r. ⌜ r ≡ listed (inputVerdict pattern (length (now (text .entry)))) (pattern .count) (leftmost pattern (now (text .entry))) (length (now (list .entry))) ⌝ }
-    ensures { λ _. ⌜ now (list .exit) ≡ filled (inputVerdict pattern (length (now (text .entry)))) (pattern .count) (leftmost pattern (now (text .entry))) (now (list .entry)) ⌝ }
+    ensures { λ r. ⌜ r ≡ frontListed pattern (now (text .entry)) (length (now (list .entry))) ⌝ }
+    ensures { λ _. ⌜ now (list .exit) ≡ frontWritten pattern (now (text .entry)) (now (list .entry)) ⌝ }
     ensures { λ _. ⌜ Best pattern (now (text .entry)) ⌝ }
 {
     fill(pattern, text, false, list)
@@ -135,8 +135,8 @@ pub fn leftmost(pattern: Pattern, text: &[u16], list: &mut [u16]) -> Listed
 
 // The back list, its earliest row first: each row, from the last, the latest occurrence before the row after it.
 pub fn rightmost(pattern: Pattern, text: &[u16], list: &mut [u16]) -> Listed
-    ensures { λ r. ⌜ r ≡ listed (inputVerdict pattern (length (now (text .entry)))) (pattern .count) (rightmost pattern (now (text .entry))) (length (now (list .entry))) ⌝ }
-    ensures { λ _. ⌜ now (list .exit) ≡ filled (inputVerdict pattern (length (now (text .entry)))) (pattern .count) (rightmost pattern (now (text .entry))) (now (list .entry)) ⌝ }
+    ensures { λ r. ⌜ r ≡ backListed pattern (now (text .entry)) (length (now (list .entry))) ⌝ }
+    ensures { λ _. ⌜ now (list .exit) ≡ backWritten pattern (now (text .entry)) (now (list .entry)) ⌝ }
     ensures { λ _. ⌜ Best pattern (now (text .entry)) ⌝ }
 {
     fill(pattern, text, true, list)

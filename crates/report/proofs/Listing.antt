@@ -17,7 +17,7 @@ use Rattle.pattern.specs.declared.refusal.Verdict.the-variants.{Accepted, Refus
 use Rattle.pattern.specs.Laws.Accepting.{input-accepted}
 use Rattle.basics.specs.Choice.{pick}
 use Rattle.pattern.specs.Tests.{inputVerdict}
-use Rattle.matching.specs.Answers.{listed, filled, Best}
+use Rattle.matching.specs.Answers.{listed, filled, frontListed, frontWritten, backWritten, Best}
 use Rattle.basics.specs.Collections.{Every}
 use Rattle.basics.specs.Laws.Collections.{every-map}
 use Rattle.basics.specs.Laws.Written.{length-flat}
@@ -38,14 +38,6 @@ entries f t h = length-flat (f .count) (every-map (λ r o. o .size) h)
 -- they stand at the list's start
 entries-first : (m : ℕ) (R : List (List ℕ)) (l : List ℕ) (n : ℕ) → length (flat R) ≡ n → take n (written m R l) ≡ flat R
 entries-first m R l n e = take-at (flat R) (drop (length R * m) l) n e
-
--- what a list call answers, with room for so many places
-abbrev pub answered : Pattern → List ℕ → List (List ℕ) → ℕ → Listed
-answered f t R room = listed (inputVerdict f (length t)) (f .count) R room
-
--- what the list then holds
-abbrev pub holding : Pattern → List ℕ → List (List ℕ) → List ℕ → List ℕ
-holding f t R l = filled (inputVerdict f (length t)) (f .count) R l
 
 -- ---- the front list
 
@@ -71,7 +63,7 @@ found Accepted m R l rows e = go (ltb (length l) (length R * m)) refl e
         }
 
 front-of : (f : Pattern) (t l : List ℕ) (rows : ℕ) {after : List ℕ} → length l ≡ 16000 → Best f t
-    → answered f t (leftmost f t) (length l) ≡ Rows rows → after ≡ holding f t (leftmost f t) l → Fronted f t rows (take (rows * f .count - 0) after)
+    → frontListed f t (length l) ≡ Rows rows → after ≡ frontWritten f t l → Fronted f t rows (take (rows * f .count - 0) after)
 front-of f t l rows {after} size best answer e =
     let n = rows * f .count in
     let r = found (inputVerdict f (length t)) (f .count) (leftmost f t) l rows answer in
@@ -83,9 +75,9 @@ front-of f t l rows {after} size best answer e =
       places = ap (λ (k : ℕ). take k after) (sub-zero n) ∙ ap (take n) (e ∙ r .holds) ∙ entries-first (f .count) (leftmost f t) l n s;
     }
 
-report-of : (f : Pattern) (t l : List ℕ) {a : Listed} → length l ≡ 16000 → answered f t (leftmost f t) (length l) ≡ a → afterLists a f t ≡ searchReport f t
+report-of : (f : Pattern) (t l : List ℕ) {a : Listed} → length l ≡ 16000 → frontListed f t (length l) ≡ a → afterLists a f t ≡ searchReport f t
 unfolding searchReport
-report-of f t l size e = ap (λ (x : Listed). afterLists x f t) (sym e ∙ ap (answered f t (leftmost f t)) size)
+report-of f t l size e = ap (λ (x : Listed). afterLists x f t) (sym e ∙ ap (frontListed f t) size)
 
 -- ---- the back list
 
@@ -101,7 +93,7 @@ same-table : {count rows n k : ℕ} (m tally : ℕ) {front flatFront back flatBa
 same-table m tally a b d e = cc
 
 back-of : {f : Pattern} {t front : List ℕ} (l : List ℕ) {rows : ℕ} {after : List ℕ} → length l ≡ 16000 → Best f t → Fronted f t rows front
-    → after ≡ holding f t (rightmost f t) l → Backed f t front after rows
+    → after ≡ backWritten f t l → Backed f t front after rows
 back-of {f} {t} {front} l {rows} {after} size best r e =
     let b = best (r .accepted) in
     let n = length front in
@@ -110,7 +102,7 @@ back-of {f} {t} {front} l {rows} {after} size best r e =
     let many : n ≡ length (leftmost f t) * f .count = ap length (r .places) ∙ entries f t (b .front .occur) in
     let same : length (leftmost f t) * f .count ≡ rows * f .count = ap (λ (k : ℕ). k * f .count) (sym (r .count)) in
     let fits : ltb (length l) (length (rightmost f t) * f .count) ≡ false = le-ltb (length l) (length (rightmost f t) * f .count) (omega (arith, r .room)) in
-    let h : holding f t (rightmost f t) l ≡ written (f .count) (rightmost f t) l = rw (r .accepted) (rw fits) in
+    let h : backWritten f t l ≡ written (f .count) (rightmost f t) l = rw (r .accepted) (rw fits) in
     let p : take (n - 0) after ≡ flat (rightmost f t) = ap (λ (k : ℕ). take k after) (sub-zero n) ∙ ap (take n) (e ∙ h) ∙ entries-first (f .count) (rightmost f t) l n (omega arith) in
     record {
       some = input-accepted f (length t) .0 (r .accepted) .pattern .some;
@@ -128,16 +120,16 @@ new-size : length new ≡ 16000
 new-size = length-replicate {A = ℕ} 16000 0
 
 -- a refusal is handed on
-pub list-refused : (f : Pattern) (t : List ℕ) {why : Refusal} → answered f t (leftmost f t) (length new) ≡ NotListed why → refusalReport why ≡ searchReport f t
+pub list-refused : (f : Pattern) (t : List ℕ) {why : Refusal} → frontListed f t (length new) ≡ NotListed why → refusalReport why ≡ searchReport f t
 list-refused f t e = report-of f t new new-size e
 
 -- where there is none, the tally decides
-pub list-found : (f : Pattern) (t : List ℕ) {rows : ℕ} → answered f t (leftmost f t) (length new) ≡ Rows rows → afterTally (tallied f t) f t ≡ searchReport f t
+pub list-found : (f : Pattern) (t : List ℕ) {rows : ℕ} → frontListed f t (length new) ≡ Rows rows → afterTally (tallied f t) f t ≡ searchReport f t
 list-found f t e = report-of f t new new-size e
 
-pub fronted : (f : Pattern) (t : List ℕ) {rows : ℕ} {after : List ℕ} → Best f t → answered f t (leftmost f t) (length new) ≡ Rows rows
-    → after ≡ holding f t (leftmost f t) new → Fronted f t rows (take (rows * f .count - 0) after)
+pub fronted : (f : Pattern) (t : List ℕ) {rows : ℕ} {after : List ℕ} → Best f t → frontListed f t (length new) ≡ Rows rows
+    → after ≡ frontWritten f t new → Fronted f t rows (take (rows * f .count - 0) after)
 fronted f t {rows} best answer e = front-of f t new rows new-size best answer e
 
-pub backed : {f : Pattern} {t front : List ℕ} {rows : ℕ} {after : List ℕ} → Best f t → Fronted f t rows front → after ≡ holding f t (rightmost f t) new → Backed f t front after rows
+pub backed : {f : Pattern} {t front : List ℕ} {rows : ℕ} {after : List ℕ} → Best f t → Fronted f t rows front → after ≡ backWritten f t new → Backed f t front after rows
 backed best r e = back-of new new-size best r e

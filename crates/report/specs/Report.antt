@@ -4,10 +4,9 @@ use mathlib.Core.List.{List}
 use lib.ListN.{length}
 use lib.Dec.{ltb}
 use Rattle.basics.specs.Choice.{pick}
-use Rattle.pattern.specs.Tests.{inputVerdict}
 use Rattle.pattern.specs.declared.Pattern.{Pattern}
 use Rattle.pattern.specs.declared.refusal.Refusal.the-variants.{FileLength}
-use Rattle.matching.specs.Answers.{listed}
+use Rattle.matching.specs.Answers.{frontListed}
 use Rattle.matching.specs.Lists.{leftmost, rightmost}
 use Rattle.matching.specs.declared.rows.Listed.{Listed}
 use Rattle.matching.specs.declared.rows.Listed.the-variants.{Rows}
@@ -38,7 +37,7 @@ afterLists (NotListed why) f t = refusalReport why
 
 -- a pattern in a text, with two lists of 16,000 places
 unfoldable pub searchReport : Pattern → List ℕ → List ℕ
-searchReport f t = afterLists (listed (inputVerdict f (length t)) (f .count) (leftmost f t) 16000) f t
+searchReport f t = afterLists (frontListed f t 16000) f t
 
 -- ---- an input
 

@@ -18,7 +18,7 @@ use Rattle.pattern.specs.declared.refusal.Refusal.{Refusal}
 use Rattle.pattern.specs.declared.refusal.Refusal.the-variants.{FileLength, ListLength}
 use Rattle.pattern.specs.declared.refusal.Verdict.{Verdict}
 use Rattle.pattern.specs.declared.refusal.Verdict.the-variants.{Accepted, Refused}
-use Rattle.matching.specs.Answers.{listed}
+use Rattle.matching.specs.Answers.{frontListed}
 use Rattle.basics.specs.Collections.{Every, none, more}
 use Rattle.matching.specs.Laws.Largest.{largest}
 use Rattle.matching.specs.Lists.{leftmost, rightmost}
@@ -129,7 +129,7 @@ unfolding searchReport
 search-size f t = go (inputVerdict f (length t)) refl (ltb 16000 (length (leftmost f t) * f .count)) refl
   where
     go : (v : Verdict) → inputVerdict f (length t) ≡ v → (x : Bool) → ltb 16000 (length (leftmost f t) * f .count) ≡ x
-        → length (afterLists (listed (inputVerdict f (length t)) (f .count) (leftmost f t) 16000) f t) ≤ 336059
+        → length (afterLists (frontListed f t 16000) f t) ≤ 336059
     go (Refused why) e x b = rw e (refusal-size why)
     go Accepted e true b = rw (e, b) (refusal-size (ListLength (length (leftmost f t))))
     go Accepted e false b = rw (e, b) (tally-size (tallied f t) f t e (ltb-false 16000 (length (leftmost f t) * f .count) b))
