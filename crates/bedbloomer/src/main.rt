@@ -68,6 +68,7 @@ fn print(input: &[u8]) {
     }
 }
 
+// Reads, reports, writes.
 fn main() {
     let mut list = io::large_buffer();
     let input = read_all(STDIN_FILENO, &mut list);

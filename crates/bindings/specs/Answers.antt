@@ -35,24 +35,30 @@ use Rattle.bindings.specs.declared.answers.ServedTo.{ServedTo}
 
 -- ---- one number
 
+-- why nothing is answered
 abbrev pub refused : Refusal → Answer
 refused why = record { number = numberOf why; place = placeOf why; value = 0 }
 
+-- a number that is answered
 abbrev pub value : ℕ → Answer
 value n = record { number = 0; place = 0; value = n }
 
+-- a verdict: 0 where it accepts
 abbrev pub ofVerdict : Verdict → Answer
 ofVerdict Accepted = value 0
 ofVerdict (Refused why) = refused why
 
+-- a list call: how many rows
 abbrev pub ofListed : Listed → Answer
 ofListed (Rows rows) = value rows
 ofListed (NotListed why) = refused why
 
+-- the tally
 abbrev pub ofTallied : Tallied → Answer
 ofTallied (Total total) = value total
 ofTallied (NotTallied why) = refused why
 
+-- a text that was read: how many words
 abbrev pub ofTextRead : TextRead → Answer
 ofTextRead (Words n) = value n
 ofTextRead (NoText why) = refused why
@@ -71,15 +77,19 @@ ofOutcome (NotSearched why) = refused why
 
 -- ---- with what else a call gives
 
+-- a verdict with a pattern beside it
 abbrev pub withPattern : Verdict → Pattern → Made
 withPattern v p = record { number = ofVerdict v .number; place = ofVerdict v .place; pattern = p }
 
+-- a slot that was added
 abbrev pub ofExtended : Extended → Made
 ofExtended r = withPattern (r .verdict) (r .pattern)
 
+-- a pattern that was read
 abbrev pub ofPatternRead : PatternRead → Made
 ofPatternRead r = withPattern (r .verdict) (r .pattern)
 
+-- both files that were read
 abbrev pub ofInputRead : InputRead → ReadBoth
 ofInputRead r =
     record {
@@ -89,9 +99,11 @@ ofInputRead r =
       pattern = r .pattern;
     }
 
+-- a line of a file
 abbrev pub ofLine : Line → LineEnds
 ofLine l = record { end = l .end; next = l .next }
 
+-- a search: 1 for found, and the sixteen places
 abbrev pub ofSearch : Search → Found
 ofSearch r =
     record {
@@ -105,9 +117,11 @@ ofSearch r =
 abbrev pub ofExcerpt : List ℕ → ℕ → Excerpted
 ofExcerpt ws i = record { length = length ws; word = getD ws i 0 }
 
+-- the clients' state with an answer and sixteen places
 abbrev pub withCursors : Cursors → Answer → List ℕ → ServedTo
 withCursors after told row = record { cursors = after; number = told .number; place = told .place; found = told .value; places = row }
 
+-- what a client was served (document 01: handed out)
 abbrev pub ofServed : Served → ServedTo
 ofServed r = withCursors (r .cursors) (ofOutcome (r .outcome)) (r .places)
 

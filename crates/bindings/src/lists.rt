@@ -32,7 +32,7 @@ pub extern "C" fn bedbloomer_rightmost(pattern: Pattern, text: &[u16], list: &mu
     of_listed(rightmost)
 }
 
-// All occurrences.
+// All occurrences: the full list.
 #[no_mangle]
 pub extern "C" fn bedbloomer_all(pattern: Pattern, text: &[u16], list: &mut [u16]) -> Answer
     ensures { λ r. ⌜ r ≡ ofListed (allListed pattern (now (text .entry)) (length (now (list .entry)))) ⌝ }
@@ -51,7 +51,7 @@ pub extern "C" fn bedbloomer_support(pattern: Pattern, text: &[u16]) -> Answer
     of_listed(support)
 }
 
-// The number of all occurrences.
+// The tally: the number of all occurrences.
 #[no_mangle]
 pub extern "C" fn bedbloomer_tally(pattern: Pattern, text: &[u16]) -> Answer
     ensures { λ r. ⌜ r ≡ ofTallied (tallied pattern (now (text .entry))) ⌝ }

@@ -18,7 +18,7 @@ pub extern "C" fn bedbloomer_is_occurrence(pattern: Pattern, text: &[u16], row: 
     of_tested(excerpts::is_occurrence(pattern, text, row))
 }
 
-// How long the row's excerpt is, and its word at this index, from 0.
+// How long the row's excerpt (document 01: citation) is, and its word at this index, from 0.
 #[no_mangle]
 pub extern "C" fn bedbloomer_excerpt(
     pattern: Pattern,
@@ -54,7 +54,7 @@ fn of_search(search: Search) -> Found
     }
 }
 
-// The earliest occurrence past the marks.
+// The forward search: the earliest occurrence past the marks.
 #[no_mangle]
 pub extern "C" fn bedbloomer_first_after(pattern: Pattern, text: &[u16], marks: &[u16]) -> Found
     ensures { λ r. ⌜ r ≡ ofSearch (firstAfter pattern (now (text .entry)) (now (marks .entry))) ⌝ }
@@ -62,7 +62,7 @@ pub extern "C" fn bedbloomer_first_after(pattern: Pattern, text: &[u16], marks: 
     of_search(matching::first_after(pattern, text, marks))
 }
 
-// The latest occurrence before the marks.
+// The backward search: the latest occurrence before the marks.
 #[no_mangle]
 pub extern "C" fn bedbloomer_last_before(pattern: Pattern, text: &[u16], marks: &[u16]) -> Found
     ensures { λ r. ⌜ r ≡ ofSearch (lastBefore pattern (now (text .entry)) (now (marks .entry))) ⌝ }

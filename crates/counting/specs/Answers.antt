@@ -20,23 +20,27 @@ use Rattle.counting.specs.declared.total.Tallied.the-variants.{Total, Re
 
 -- ---- the tally: 9 where the number is over 2 ^ 64 - 1
 
+-- the answer for so many occurrences
 abbrev pub totalOf : ℕ → Tallied
 totalOf n = pick (ltb 18446744073709551615 n) (Refused Tally) (Total n)
 
+-- the same where the tests 1 to 6 come to the verdict
 abbrev pub talliedAfter : Verdict → ℕ → Tallied
 talliedAfter Accepted n = totalOf n
 talliedAfter (Turned why) n = Refused why
 
+-- the tally (document 01: tally)
 abbrev pub tallied : Pattern → List ℕ → Tallied
 tallied f t = talliedAfter (inputVerdict f (length t)) (length (occurrences f t))
 
 -- ---- all occurrences: 8 where the list is shorter than rows times slots, with the place 0
 
+-- the answer for so many rows of m places and a list of n, where the tests 1 to 6 come to the verdict
 abbrev pub listedAfter : Verdict → ℕ → ℕ → ℕ → Listed
 listedAfter Accepted rows m n = pick (ltb n (rows * m)) (Unlisted (ListLength 0)) (Rows rows)
 listedAfter (Turned why) rows m n = Unlisted why
 
--- the answer, for a list of n places
+-- the answer for the list of all (document 01: full list), for a list of n places
 abbrev pub allListed : Pattern → List ℕ → ℕ → Listed
 allListed f t n = listedAfter (inputVerdict f (length t)) (length (occurrences f t)) (f .count) n
 

@@ -76,6 +76,7 @@ pub(crate) struct Outline {
 }
 
 impl Outline {
+    // What the runs over n places are handed of a pattern.
     pub(crate) fn of(f: Pattern, n: usize) -> Self
         requires { ⌜ Accepted f ⌝ }
         ensures { λ r. ⌜ Outlined f n r ⌝ }

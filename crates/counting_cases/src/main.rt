@@ -82,6 +82,7 @@ fn show_room(pattern: Pattern, text: &[u16], room: usize) {
     }
 }
 
+// Texts of sevens at the limits of the tally and of the list.
 fn main() {
     let text = [7u16; 4507];
     let wide = sevens(16, 63);

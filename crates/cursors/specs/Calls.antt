@@ -20,18 +20,22 @@ pub data Reply : Type 0 where
   served : Outcome → List ℕ → Reply
   turned : Verdict → Reply
 
+-- what a call of "next" answers
 abbrev pub replyOf : Served → Reply
 replyOf r = served (r .outcome) (r .places)
 
 -- ---- the machine
 
+-- what one call comes to
 pub record Step : Type 0 where
   pub reply : Reply
   pub state : Cursors
 
+-- a call of "next"
 abbrev pub nextStep : Served → Step
 nextStep r = record { reply = replyOf r; state = r .cursors }
 
+-- a call of "rewind"
 abbrev pub rewindStep : Rewound → Step
 rewindStep r = record { reply = turned (r .verdict); state = r .cursors }
 
@@ -40,6 +44,7 @@ abbrev pub step : Call → Cursors → Step
 step (next client f t) s = nextStep (nextServed s client f t)
 step (rewind client) s = rewindStep (rewound s client)
 
+-- what a list of calls comes to
 pub record Run : Type 0 where
   pub replies : List Reply
   pub state : Cursors

@@ -19,6 +19,7 @@ use Rattle.cursors.specs.declared.Rewound.{Rewound}
 
 -- ---- the state
 
+-- marks that are all 0
 abbrev pub noMarks : Marks
 noMarks = record { places = replicate 16 0 }
 
@@ -67,9 +68,11 @@ nextServed s client f t =
 
 -- ---- rewind
 
+-- what is given where the test comes to the verdict: the client's marks are 0, and the number stays
 abbrev pub rewoundBy : Verdict → Cursors → ℕ → Rewound
 rewoundBy Accepted s client = record { cursors = record { marks = set (s .marks) (client - 1) noMarks; served = s .served }; verdict = Accepted }
 rewoundBy (Refused why) s client = record { cursors = s; verdict = Refused why }
 
+-- 14 alone is tested (document 01: rewind)
 unfoldable pub rewound : Cursors → ℕ → Rewound
 rewound s client = rewoundBy (clientVerdict client) s client

@@ -105,6 +105,7 @@ fn kept(outcome: Outcome, before: Cursors, after: Cursors) -> Cursors
 }
 
 impl Cursors {
+    // How many clients there are (document 01: editors); they are counted from 1.
     pub const CLIENTS: usize = 4;
 
     // From this number on, nothing is served.

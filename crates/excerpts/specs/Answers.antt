@@ -18,6 +18,7 @@ abbrev pub testedBy : Verdict → Bool → Tested
 testedBy Accepted occurs = pick occurs Yes No
 testedBy (Refused why) occurs = NotTested why
 
+-- the answer for a row (document 01: test)
 abbrev pub isOccurrence : Pattern → List ℕ → List ℕ → Tested
 isOccurrence f t row = testedBy (rowVerdict f t row) (occurs f t row)
 
@@ -27,7 +28,7 @@ ifOccurrence Yes a b = a
 ifOccurrence No a b = b
 ifOccurrence (NotTested why) a b = b
 
--- the words from the row's first place to its last
+-- the excerpt (document 01: citation): the words from the row's first place to its last
 unfoldable pub excerptOf : Pattern → List ℕ → List ℕ → List ℕ
 excerptOf f t row = ifOccurrence (isOccurrence f t row) (take (at row (f .count - 1) - (at row 0 - 1)) (drop (at row 0 - 1) t)) []
 

@@ -96,7 +96,7 @@ fn span_fits(first: usize, last: usize, least: usize, most: usize) -> bool
     true
 }
 
-// Whether the row is an occurrence: word, gap and span in the order of Definition 3.
+// Whether the row is an occurrence (document 01: test): word, gap and span in the order of Definition 3.
 pub fn is_occurrence(pattern: Pattern, text: &[u16], row: &[u16]) -> Tested
     ensures { λ r. ⌜ r ≡ isOccurrence pattern (now (text .entry)) (now (row .entry)) ⌝ }
 {
@@ -125,7 +125,7 @@ pub fn is_occurrence(pattern: Pattern, text: &[u16], row: &[u16]) -> Tested
     Tested::Yes
 }
 
-// The very part of the caller's text from the row's first place to its last; empty where the row is no occurrence.
+// The excerpt (document 01: citation): the very part of the caller's text from the row's first place to its last; empty where the row is no occurrence.
 pub fn excerpt<'a, 'b>(pattern: Pattern, text: &'a [u16], row: &'b [u16]) -> &'a [u16]
     ensures { λ r. ⌜ now r ≡ excerptOf pattern (now (text .entry)) (now (row .entry)) ⌝ }
     ensures { λ r. ⌜ r .ptr ≡ (text .entry .ptr .0, excerptStart pattern (now (text .entry)) (now (row .entry)) * 2 + text .entry .ptr .1) ⌝ }

@@ -33,10 +33,11 @@ unfoldable pub parts : List ℕ → ℕ → List (List ℕ)
 parts [] sep = [] ∷ []
 parts (b ∷ s) sep = pick (eqb b sep) ([] ∷ parts s sep) (onFirst (parts s sep) b)
 
--- the fields of a line, which single spaces part, and one of them
+-- the fields of a line, which single spaces part
 abbrev pub fields : List ℕ → List (List ℕ)
 fields l = parts l 32
 
+-- one of them, from 0; nothing past the last
 abbrev pub field : List ℕ → ℕ → List ℕ
 field l k = getD (parts l 32) k []
 
@@ -67,6 +68,7 @@ unfoldable pub decimal : List ℕ → ℕ
 decimal [] = noNumber
 decimal (b ∷ s) = pick (eqb b 48) (pick (eqb (length s) 0) 0 noNumber) (more (b ∷ s) 0)
 
+-- the bytes are such a number
 abbrev pub isNumber : List ℕ → Bool
 isNumber l = leb (decimal l) 65535
 

@@ -21,10 +21,12 @@ use Rattle.format.specs.declared.texts.TextRead.the-variants.{Refused as
 abbrev pub refusedInput : Refusal → InputRead
 refusedInput why = record { text = NoText why; pattern = emptyPattern }
 
+-- what the text's answer gives beside an accepted pattern
 abbrev pub withText : TextRead → Pattern → InputRead
 withText (Words n) f = record { text = Words n; pattern = f }
 withText (NoText why) f = refusedInput why
 
+-- what both answers give, the pattern's first
 abbrev pub withPattern : Verdict → Pattern → TextRead → InputRead
 withPattern Accepted f t = withText t f
 withPattern (Refused why) f t = refusedInput why
@@ -36,11 +38,12 @@ inputRead p t room =
     (pick (ltb 60000 (length t)) (refusedInput FileLength)
     (withPattern (patternRead p .verdict) (patternRead p .pattern) (textRead t room)))
 
--- the caller's list at the end
+-- what a text's reading leaves of the caller's list where the pattern's answer is the verdict
 abbrev pub afterPattern : Verdict → List ℕ → List ℕ → List ℕ
 afterPattern Accepted written out = written
 afterPattern (Refused why) written out = out
 
+-- the caller's list at the end
 unfoldable pub inputWritten : List ℕ → List ℕ → List ℕ → List ℕ
 inputWritten p t out =
     pick (ltb 60000 (length p)) out

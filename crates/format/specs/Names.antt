@@ -12,20 +12,23 @@ use Rattle.format.specs.declared.names.Columns.{Columns}
 abbrev pub wordName : List ℕ
 wordName = 119 ∷ 111 ∷ 114 ∷ 100 ∷ []
 
--- `least`, `most`
+-- `least`
 abbrev pub leastName : List ℕ
 leastName = 108 ∷ 101 ∷ 97 ∷ 115 ∷ 116 ∷ []
 
+-- `most`
 abbrev pub mostName : List ℕ
 mostName = 109 ∷ 111 ∷ 115 ∷ 116 ∷ []
 
--- `low`, `high`, `words`
+-- `low`
 abbrev pub lowName : List ℕ
 lowName = 108 ∷ 111 ∷ 119 ∷ []
 
+-- `high`
 abbrev pub highName : List ℕ
 highName = 104 ∷ 105 ∷ 103 ∷ 104 ∷ []
 
+-- `words`
 abbrev pub wordsName : List ℕ
 wordsName = 119 ∷ 111 ∷ 114 ∷ 100 ∷ 115 ∷ []
 
@@ -50,5 +53,6 @@ slotNames l =
     false)
     false
 
+-- where the three names of the line stand
 abbrev pub columnsOf : List ℕ → Columns
 columnsOf l = record { low = column (fields l) lowName; high = column (fields l) highName; words = column (fields l) wordsName }

@@ -42,6 +42,7 @@ pub record SlotLine : Type 0 where
   pub high : ℕ
   pub words : List ℕ
 
+-- the numbers of a slot's line, by its columns
 abbrev pub readSlot : Columns → List ℕ → SlotLine
 readSlot c l = record { low = value (field l (c .low)); high = value (field l (c .high)); words = map value (parts (field l (c .words)) 44) }
 
@@ -50,51 +51,64 @@ pub data PatternContents : Type 0 where
   refused : Refusal → PatternContents
   shown : ℕ → ℕ → List SlotLine → PatternContents
 
+-- from the slots' lines ls on, whose layout was looked at: the first of them is line 4
 abbrev pub fromSlots : Layout → Columns → ℕ → ℕ → List (List ℕ) → PatternContents
 fromSlots (Wrong n) c least most ls = refused (Values (n + 4))
 fromSlots (Right n) c least most ls = shown least most (map (readSlot c) ls)
 
+-- from the line of the slots' names on, which is line 3; the last line is closed or not
 abbrev pub fromSlotNames : List (List ℕ) → ℕ → ℕ → Bool → PatternContents
 fromSlotNames [] least most closed = refused (Names 3)
 fromSlotNames (l ∷ ls) least most closed = pick (slotNames l) (fromSlots (scan ls (slotValues (columnsOf l)) closed 0) (columnsOf l) least most ls) (refused (Names 3))
 
+-- from the line of the span limits on, which is line 2, with the columns of `least` and `most`
 abbrev pub fromValues : List (List ℕ) → ℕ → ℕ → Bool → PatternContents
 fromValues [] i j closed = refused (Values 2)
 fromValues (l ∷ ls) i j closed = pick (spanValues l) (fromSlotNames ls (value (field l i)) (value (field l j)) closed) (refused (Values 2))
 
+-- from the first line on
 abbrev pub fromNames : List (List ℕ) → Bool → PatternContents
 fromNames [] closed = refused (Names 1)
 fromNames (l ∷ ls) closed = pick (spanNames l) (fromValues ls (column (fields l) leastName) (column (fields l) mostName) closed) (refused (Names 1))
 
+-- what stands in a file's bytes
 unfoldable pub patternContents : List ℕ → PatternContents
 patternContents s = fromNames (lines s) (ended s 10)
 
 -- ---- the pattern of these span limits and slots: their count is stated, the first sixteen are stored, and unused entries are 0
 
+-- the slot of a line
 abbrev pub madeSlot : SlotLine → Slot
 madeSlot l = slotOf (l .low) (l .high) (l .words)
 
+-- the first sixteen slots, and unused ones after them
 abbrev pub firstSlots : List Slot → List Slot
 firstSlots ss = take 16 ss ++ replicate (16 - length ss) emptySlot
 
+-- the pattern of all the lines
 abbrev pub shownPattern : ℕ → ℕ → List SlotLine → Pattern
 shownPattern least most ls = record { slots = firstSlots (map madeSlot ls); count = length ls; least = least; most = most }
 
 -- ---- the answer: 12, layout, then the tests 1 to 5; a new pattern beside a refusal
 
+-- a refusal
 abbrev pub refusedPattern : Refusal → PatternRead
 refusedPattern why = record { verdict = Refused why; pattern = emptyPattern }
 
+-- the pattern where the tests come to the verdict
 abbrev pub judgedBy : Verdict → Pattern → PatternRead
 judgedBy Accepted f = record { verdict = Accepted; pattern = f }
 judgedBy (Refused why) f = refusedPattern why
 
+-- the pattern by the tests 1 to 5
 abbrev pub judged : Pattern → PatternRead
 judged f = judgedBy (patternVerdict f) f
 
+-- the answer for what stands on the lines
 abbrev pub patternAnswer : PatternContents → PatternRead
 patternAnswer (refused why) = refusedPattern why
 patternAnswer (shown least most ls) = judged (shownPattern least most ls)
 
+-- the answer for a file's bytes
 unfoldable pub patternRead : List ℕ → PatternRead
 patternRead s = pick (ltb 60000 (length s)) (refusedPattern FileLength) (patternAnswer (patternContents s))

@@ -40,11 +40,12 @@ pub data TextShows : List ℕ → List ℕ → Type 0 where
 
 -- ---- patterns
 
--- an order of two names, and of three: their columns, from 0
+-- an order of two names: their columns, from 0
 pub data Order2 : ℕ → ℕ → Type 0 where
   lm : Order2 0 1
   ml : Order2 1 0
 
+-- and of three
 pub data Order3 : ℕ → ℕ → ℕ → Type 0 where
   lhw : Order3 0 1 2
   lwh : Order3 0 2 1
@@ -53,13 +54,15 @@ pub data Order3 : ℕ → ℕ → ℕ → Type 0 where
   hwl : Order3 2 0 1
   whl : Order3 2 1 0
 
--- two things, and three, each in its column
+-- two things, the first in column i
 abbrev pub two : {A : Type 0} → ℕ → A → A → List A
 two i a b = pick (eqb i 0) (a ∷ b ∷ []) (b ∷ a ∷ [])
 
+-- the one of three things whose column is k
 abbrev pub oneOf : {A : Type 0} → Columns → ℕ → A → A → A → A
 oneOf c k l h w = pick (eqb (c .low) k) l (pick (eqb (c .high) k) h w)
 
+-- three things, each in its column
 abbrev pub three : {A : Type 0} → Columns → A → A → A → List A
 three c l h w = oneOf c 0 l h w ∷ oneOf c 1 l h w ∷ oneOf c 2 l h w ∷ []
 
@@ -80,6 +83,7 @@ pub record SmallSlot (r : SlotLine) : Type 0 where
   pub words : Small (r .words)
   pub some : 0 < length (r .words)
 
+-- all lines are such
 pub data SmallSlots : List SlotLine → Type 0 where
   no-slot : SmallSlots []
   also-slot : {r : SlotLine} {rs : List SlotLine} → SmallSlot r → SmallSlots rs → SmallSlots (r ∷ rs)

@@ -22,10 +22,12 @@ pub data TextContents : Type 0 where
   refused : Refusal → TextContents
   words : List ℕ → TextContents
 
+-- from the words' lines ls on, whose layout was looked at: the first of them is line 2
 abbrev pub afterName : Layout → List (List ℕ) → TextContents
 afterName (Wrong n) ls = refused (Values (n + 2))
 afterName (Right n) ls = words (map decimal ls)
 
+-- from the first line on; the last line is closed or not
 abbrev pub ofLines : List (List ℕ) → Bool → TextContents
 ofLines [] closed = refused (Names 1)
 ofLines (l ∷ ls) closed = pick (same l wordName) (afterName (scan ls isNumber closed 0) ls) (refused (Names 1))
@@ -42,6 +44,7 @@ shownWords (refused why) = []
 
 -- ---- the answer, with room for so many words: 12, layout, 6, 13
 
+-- the answer for what stands on the lines
 abbrev pub textAnswer : TextContents → ℕ → TextRead
 textAnswer (refused why) room = Refused why
 textAnswer (words ws) room =
@@ -49,17 +52,21 @@ textAnswer (words ws) room =
     (pick (ltb room (length ws)) (Refused WordListLength)
     (Words (length ws)))
 
+-- the answer for a file's bytes
 unfoldable pub textRead : List ℕ → ℕ → TextRead
 textRead s room = pick (ltb 60000 (length s)) (Refused FileLength) (textAnswer (textContents s) room)
 
 -- ---- the caller's list at the end: as it was, or with the words at its start
 
+-- the words over the list's start
 abbrev pub over : List ℕ → List ℕ → List ℕ
 over out ws = ws ++ drop (length ws) out
 
+-- the list, by what stands on the lines
 abbrev pub contentsWritten : TextContents → List ℕ → List ℕ
 contentsWritten (refused why) out = out
 contentsWritten (words ws) out = pick (ltb 20000 (length ws)) out (pick (ltb (length out) (length ws)) out (over out ws))
 
+-- the list, by a file's bytes
 unfoldable pub textWritten : List ℕ → List ℕ → List ℕ
 textWritten s out = pick (ltb 60000 (length s)) out (contentsWritten (textContents s) out)

@@ -155,7 +155,7 @@ fn from_values(s: &[u8], from: usize, i: usize, j: usize) -> PatternRead
     from_slot_names(s, line.next, least, most)
 }
 
-// Reads a pattern.
+// Reads a pattern file (document 01: frame sheet).
 pub fn read_pattern(bytes: &[u8]) -> PatternRead
     ensures { λ r. ⌜ r ≡ patternRead (now (bytes .entry)) ⌝ }
 {

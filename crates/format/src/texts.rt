@@ -58,7 +58,7 @@ fn write_words(s: &[u8], out: &mut [u16], m: usize)
     }
 }
 
-// Reads a text: its words go to the start of `words`.
+// Reads a text file (document 01: text sheet): its words go to the start of `words`.
 pub fn read_text(bytes: &[u8], words: &mut [u16]) -> TextRead
     ensures { λ r. ⌜ (r ≡ textRead (now (bytes .entry)) (length (now (words .entry)))) × (now (words .exit) ≡ textWritten (now (bytes .entry)) (now (words .entry))) ⌝ }
 {

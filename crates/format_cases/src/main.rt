@@ -4,11 +4,13 @@ use libc::STDOUT_FILENO;
 use pattern::Refusal;
 use pattern::Verdict;
 
+// Prints a line with a number.
 fn print_number(n: usize) {
     io::print_decimal(STDOUT_FILENO, n as u64);
     io::write_all(STDOUT_FILENO, b"\n");
 }
 
+// Prints a line with the number and the place of a refusal.
 fn print_refusal(why: Refusal) {
     io::write_all(STDOUT_FILENO, b"refused ");
     io::print_decimal(STDOUT_FILENO, why.number() as u64);
@@ -27,6 +29,7 @@ fn pattern_case(bytes: &[u8]) {
     }
 }
 
+// Prints what reading a text answers.
 fn print_answer(answer: TextRead) {
     match answer {
         TextRead::Words(n) => print_number(n),
@@ -84,6 +87,7 @@ fn long_cases() {
     text_case(first(&text, 40008));
 }
 
+// The files, one after the other.
 fn main() {
     pattern_case(b"least most\n1 20000\nlow high words\n0 0 7\n0 1 1\n0 1 1\n");
     pattern_case(b"most least\n9 3\nwords low high\n7,8,65535 0 0\n");

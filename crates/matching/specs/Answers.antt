@@ -31,6 +31,7 @@ rowVerdict f t row = andThen (inputVerdict f (length t)) (refuse (not (eqb (leng
 abbrev pub sixteen : List ℕ → List ℕ
 sixteen r = r ++ replicate (16 - length r) 0
 
+-- what a search found
 abbrev pub searched : Option (List ℕ) → Search
 searched none = record { outcome = Absent; places = replicate 16 0 }
 searched (some r) = record { outcome = Found; places = sixteen r }
@@ -40,9 +41,11 @@ abbrev pub searchedBy : Verdict → Option (List ℕ) → Search
 searchedBy Accepted found = searched found
 searchedBy (Refused why) found = record { outcome = NotSearched why; places = replicate 16 0 }
 
+-- the forward search (document 01: forward)
 abbrev pub firstAfter : Pattern → List ℕ → List ℕ → Search
 firstAfter f t marks = searchedBy (rowVerdict f t marks) (earliest f t marks)
 
+-- the backward search (document 01: backward)
 abbrev pub lastBefore : Pattern → List ℕ → List ℕ → Search
 lastBefore f t marks = searchedBy (rowVerdict f t marks) (latest f t marks)
 

@@ -10,6 +10,7 @@ use Rattle.matching.specs.Nonoverlap.{NonoverlappingIn}
 use Rattle.matching.specs.Rows.{NotAfter}
 use Rattle.matching.specs.Rising.{rising}
 
+-- in any view
 pub record LargestIn (f : Pattern) (v : View) (F B : List (List ℕ)) : Type 0 where
   pub front : NonoverlappingIn f v F
   pub back : NonoverlappingIn f v B
@@ -23,5 +24,6 @@ pub record LargestIn (f : Pattern) (v : View) (F B : List (List ℕ)) : Type 0 w
   pub below : (H : List (List ℕ)) → NonoverlappingIn f v H → (i j k : ℕ) → i + k + 1 ≡ length H → j + k + 1 ≡ length B
       → NotAfter (f .count) (getD (rising H) i []) (getD B j [])
 
+-- in a text
 abbrev pub Largest : Pattern → List ℕ → List (List ℕ) → List (List ℕ) → Type 0
 Largest f t F B = LargestIn f (plain f t) F B

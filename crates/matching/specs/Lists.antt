@@ -21,6 +21,7 @@ follow search (suc n) marks = onward (search marks) (λ r. follow search n r)
 unfoldable pub leftmostIn : Pattern → View → List (List ℕ)
 leftmostIn f v = follow (λ marks. earliestIn f v marks) (v .places) (level (f .count) 0)
 
+-- of a text (document 01: front list)
 abbrev pub leftmost : Pattern → List ℕ → List (List ℕ)
 leftmost f t = leftmostIn f (plain f t)
 
@@ -28,5 +29,6 @@ leftmost f t = leftmostIn f (plain f t)
 unfoldable pub rightmostIn : Pattern → View → List (List ℕ)
 rightmostIn f v = reverse (follow (λ marks. latestIn f v marks) (v .places) (level (f .count) 65535))
 
+-- of a text (document 01: back list)
 abbrev pub rightmost : Pattern → List ℕ → List (List ℕ)
 rightmost f t = rightmostIn f (plain f t)

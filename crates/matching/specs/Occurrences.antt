@@ -12,6 +12,7 @@ use Rattle.basics.specs.Collections.{select}
 
 -- ---- the test of Definition 3
 
+-- x lies within low to high
 unfoldable pub within : ℕ → ℕ → ℕ → Bool
 within low x high = leb low x && leb x high
 
@@ -20,6 +21,7 @@ unfoldable pub each : ℕ → (ℕ → Bool) → Bool
 each zero p = true
 each (suc n) p = p n && each n p
 
+-- the row is an occurrence: size, inside, fit, gap and span as the record has them
 unfoldable pub occursIn : Pattern → View → List ℕ → Bool
 occursIn f v r =
     eqb (length r) (f .count)
@@ -28,6 +30,7 @@ occursIn f v r =
     && each (f .count - 1) (λ j. within (at r j + slotAt f (j + 1) .low + 1) (at r (j + 1)) (at r j + slotAt f (j + 1) .high + 1))
     && within (at r 0 + f .least) (at r (f .count - 1) + 1) (at r 0 + f .most)
 
+-- in a text
 abbrev pub occurs : Pattern → List ℕ → List ℕ → Bool
 occurs f t r = occursIn f (plain f t) r
 
@@ -48,15 +51,18 @@ unfoldable pub rows : ℕ → ℕ → List (List ℕ)
 rows zero n = [] ∷ []
 rows (suc m) n = extend (places 1 n) (rows m n)
 
+-- lexicographic order: an earlier place at the first slot at which the rows differ
 pub data Lex : List ℕ → List ℕ → Type 0 where
   here : {p q : ℕ} {r s : List ℕ} → p < q → Lex (p ∷ r) (q ∷ s)
   after : {p : ℕ} {r s : List ℕ} → Lex r s → Lex (p ∷ r) (p ∷ s)
 
 -- ---- those that occur
 
+-- all of them, in that order
 unfoldable pub occurrencesIn : Pattern → View → List (List ℕ)
 occurrencesIn f v = select (occursIn f v) (rows (f .count) (v .places))
 
+-- in a text
 abbrev pub occurrences : Pattern → List ℕ → List (List ℕ)
 occurrences f t = occurrencesIn f (plain f t)
 

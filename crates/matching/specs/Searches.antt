@@ -19,10 +19,11 @@ unfoldable pub extreme : (List ℕ → List ℕ → List ℕ) → List (List ℕ
 extreme near [] = none
 extreme near (r ∷ R) = some (nearest near r R)
 
--- the earliest of the rows R of m places with each place past its mark, and the latest with each place before its mark
+-- the earliest of the rows R of m places with each place past its mark
 unfoldable pub earliestOf : ℕ → List (List ℕ) → List ℕ → Option (List ℕ)
 earliestOf m R marks = extreme meet (select (λ r. before m marks r) R)
 
+-- the latest with each place before its mark
 unfoldable pub latestOf : ℕ → List (List ℕ) → List ℕ → Option (List ℕ)
 latestOf m R marks = extreme join (select (λ r. before m r marks) R)
 
@@ -30,6 +31,7 @@ latestOf m R marks = extreme join (select (λ r. before m r marks) R)
 abbrev pub earliestIn : Pattern → View → List ℕ → Option (List ℕ)
 earliestIn f v marks = earliestOf (f .count) (occurrencesIn f v) marks
 
+-- the forward search in a text (document 01: forward)
 abbrev pub earliest : Pattern → List ℕ → List ℕ → Option (List ℕ)
 earliest f t marks = earliestIn f (plain f t) marks
 
@@ -37,15 +39,16 @@ earliest f t marks = earliestIn f (plain f t) marks
 abbrev pub latestIn : Pattern → View → List ℕ → Option (List ℕ)
 latestIn f v marks = latestOf (f .count) (occurrencesIn f v) marks
 
+-- the backward search in a text (document 01: backward)
 abbrev pub latest : Pattern → List ℕ → List ℕ → Option (List ℕ)
 latest f t marks = latestIn f (plain f t) marks
 
 -- ---- what a found row is; `Laws/Extremes` proves that the searches find just these
 
--- of the rows with `Hit`, r is past the marks, and no such row is nearer at any slot
 module _ (Hit : List ℕ → Type 0) (_≺_ _≼_ : List ℕ → List ℕ → Type 0) where
   infix 40 _≺_
   infix 40 _≼_
+  -- of the rows with `Hit`, r is past the marks, and no such row is nearer at any slot
   pub record Nearest (marks r : List ℕ) : Type 0 where
     pub hit : Hit r
     pub past : marks ≺ r

@@ -13,16 +13,19 @@ use Rattle.matching.specs.Occurrences.{occurrences}
 use Rattle.matching.specs.Searches.{earliest, latest}
 use Rattle.matching.specs.Lists.{leftmost, rightmost}
 
+-- a slot of one word
 unfoldable pub oneWord : ℕ → ℕ → ℕ → Slot
 oneWord w low high = slotOf low high (w ∷ [])
 
+-- the pattern of these slots
 unfoldable pub patternOf : List Slot → ℕ → ℕ → Pattern
 patternOf slots least most = record { slots = slots ++ replicate (16 - length slots) emptySlot; count = length slots; least = least; most = most }
 
--- aggcaaga, a[0,1]g[0,1]a
+-- aggcaaga
 unfoldable pub text-one : List ℕ
 text-one = 1 ∷ 4 ∷ 4 ∷ 3 ∷ 1 ∷ 1 ∷ 4 ∷ 1 ∷ []
 
+-- a[0,1]g[0,1]a
 unfoldable pub pattern-one : Pattern
 pattern-one = patternOf (oneWord 1 0 0 ∷ oneWord 4 0 1 ∷ oneWord 1 0 1 ∷ []) 1 20000
 
@@ -30,45 +33,51 @@ pattern-one = patternOf (oneWord 1 0 0 ∷ oneWord 4 0 1 ∷ oneWord 1 0 1 ∷ [
 unfoldable pub pattern-two : Pattern
 pattern-two = patternOf (oneWord 1 0 0 ∷ oneWord 4 0 1 ∷ oneWord 1 0 1 ∷ []) 4 5
 
--- aattatatt, a[0,1]t[0,1]a, spans 3 to 4
+-- aattatatt
 unfoldable pub text-three : List ℕ
 text-three = 1 ∷ 1 ∷ 5 ∷ 5 ∷ 1 ∷ 5 ∷ 1 ∷ 5 ∷ 5 ∷ []
 
+-- a[0,1]t[0,1]a, spans 3 to 4
 unfoldable pub pattern-three : Pattern
 pattern-three = patternOf (oneWord 1 0 0 ∷ oneWord 5 0 1 ∷ oneWord 1 0 1 ∷ []) 3 4
 
--- actataagg, a[0,1]t[0,1]a[1,3]g
+-- actataagg
 unfoldable pub text-four : List ℕ
 text-four = 1 ∷ 3 ∷ 5 ∷ 1 ∷ 5 ∷ 1 ∷ 1 ∷ 4 ∷ 4 ∷ []
 
+-- a[0,1]t[0,1]a[1,3]g
 unfoldable pub pattern-four : Pattern
 pattern-four = patternOf (oneWord 1 0 0 ∷ oneWord 5 0 1 ∷ oneWord 1 0 1 ∷ oneWord 4 1 3 ∷ []) 1 20000
 
--- atatgtagatgattga, a[0,2]t[0,2]g[0,1]a
+-- atatgtagatgattga
 unfoldable pub text-five : List ℕ
 text-five = 1 ∷ 5 ∷ 1 ∷ 5 ∷ 4 ∷ 5 ∷ 1 ∷ 4 ∷ 1 ∷ 5 ∷ 4 ∷ 1 ∷ 5 ∷ 5 ∷ 4 ∷ 1 ∷ []
 
+-- a[0,2]t[0,2]g[0,1]a
 unfoldable pub pattern-five : Pattern
 pattern-five = patternOf (oneWord 1 0 0 ∷ oneWord 5 0 2 ∷ oneWord 4 0 2 ∷ oneWord 1 0 1 ∷ []) 1 20000
 
--- acctctgtt, a[0,3]c[1,3]t
+-- acctctgtt
 unfoldable pub text-six : List ℕ
 text-six = 1 ∷ 3 ∷ 3 ∷ 5 ∷ 3 ∷ 5 ∷ 4 ∷ 5 ∷ 5 ∷ []
 
+-- a[0,3]c[1,3]t
 unfoldable pub pattern-six : Pattern
 pattern-six = patternOf (oneWord 1 0 0 ∷ oneWord 3 0 3 ∷ oneWord 5 1 3 ∷ []) 1 20000
 
--- aabxc, a[0,2]b[0,1]c, spans 1 to 4
+-- aabxc
 unfoldable pub text-seven : List ℕ
 text-seven = 1 ∷ 1 ∷ 2 ∷ 6 ∷ 3 ∷ []
 
+-- a[0,2]b[0,1]c, spans 1 to 4
 unfoldable pub pattern-seven : Pattern
 pattern-seven = patternOf (oneWord 1 0 0 ∷ oneWord 2 0 2 ∷ oneWord 3 0 1 ∷ []) 1 4
 
--- abcc, a[0,2]b[0,2]c, spans 4 to 4
+-- abcc
 unfoldable pub text-eight : List ℕ
 text-eight = 1 ∷ 2 ∷ 3 ∷ 3 ∷ []
 
+-- a[0,2]b[0,2]c, spans 4 to 4
 unfoldable pub pattern-eight : Pattern
 pattern-eight = patternOf (oneWord 1 0 0 ∷ oneWord 2 0 2 ∷ oneWord 3 0 2 ∷ []) 4 4
 
@@ -87,6 +96,7 @@ pub record Nothing (f : Pattern) : Type 0 where
   pub backward : (marks : List ℕ) → latest f [] marks ≡ none
   pub results : Results f [] [] [] [] 0 0
 
+-- what document 01 says of its nine texts
 pub record NineTexts : Type 0 where
   pub one : Results pattern-one text-one
       ((1 ∷ 3 ∷ 5 ∷ []) ∷ (5 ∷ 7 ∷ 8 ∷ []) ∷ (6 ∷ 7 ∷ 8 ∷ []) ∷ [])

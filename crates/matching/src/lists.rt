@@ -142,7 +142,7 @@ pub fn rightmost(pattern: Pattern, text: &[u16], list: &mut [u16]) -> Listed
     fill(pattern, text, true, list)
 }
 
-// The count alone: the size of a largest nonoverlapping set of occurrences.
+// The count alone (document 01: count): the size of a largest nonoverlapping set of occurrences.
 pub fn support(pattern: Pattern, text: &[u16]) -> Listed
     ensures { λ r. ⌜ r ≡ counted (inputVerdict pattern (length (now (text .entry)))) (leftmost pattern (now (text .entry))) ⌝ }
     ensures { λ _. ⌜ Best pattern (now (text .entry)) ⌝ }

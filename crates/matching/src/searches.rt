@@ -77,6 +77,7 @@ fn search_back(f: Pattern, text: &[u16], marks: [u16; 16]) -> Answer
     a
 }
 
+// An answer as the public searches give it.
 fn shown(a: Answer) -> Search
     ensures { λ r. ⌜ r ≡ shownAnswer a ⌝ }
 {
@@ -94,7 +95,7 @@ fn shown(a: Answer) -> Search
     }
 }
 
-// The occurrence with each place past its mark that is earliest at every slot.
+// The forward search (document 01: forward): the occurrence with each place past its mark that is earliest at every slot.
 pub fn first_after(pattern: Pattern, text: &[u16], marks: &[u16]) -> Search
     ensures { λ r. ⌜ r ≡ firstAfter pattern (now (text .entry)) (now (marks .entry)) ⌝ }
 {
@@ -110,7 +111,7 @@ pub fn first_after(pattern: Pattern, text: &[u16], marks: &[u16]) -> Search
     shown(a)
 }
 
-// The occurrence with each place before its mark that is latest at every slot.
+// The backward search (document 01: backward): the occurrence with each place before its mark that is latest at every slot.
 pub fn last_before(pattern: Pattern, text: &[u16], marks: &[u16]) -> Search
     ensures { λ r. ⌜ r ≡ lastBefore pattern (now (text .entry)) (now (marks .entry)) ⌝ }
 {

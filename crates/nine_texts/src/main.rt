@@ -44,6 +44,7 @@ fn check_cursors(score: Score) -> Score {
     clients
 }
 
+// Runs the texts, then the cursors, and prints how many checks there were and how many failed.
 fn main() {
     let mut score = Score::new();
     for k in 0..9 {

@@ -14,6 +14,7 @@ pub record AcceptedSlot (s : Slot) : Type 0 where
   pub ordered : s .low ≤ s .high
   pub narrow : s .high ≤ 63
 
+-- a pattern (document 01: frame)
 pub record Accepted (f : Pattern) : Type 0 where
   pub some : 1 ≤ f .count
   pub few : f .count ≤ 16

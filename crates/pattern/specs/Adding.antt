@@ -17,6 +17,7 @@ abbrev pub added : Verdict → Pattern → Slot → Extended
 added Accepted f s = record { verdict = Accepted; pattern = withSlot f s }
 added (Refused why) f s = record { verdict = Refused why; pattern = f }
 
+-- what adding a slot gives (document 01: adding)
 unfoldable pub extended : Pattern → ℕ → ℕ → List ℕ → Extended
 extended f low high ws =
     pick (leb 16 (f .count)) (record { verdict = Refused SlotCount; pattern = f })

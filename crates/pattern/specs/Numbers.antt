@@ -1,4 +1,4 @@
--- A slot as eleven numbers, for who reads many of its words: the two bounds of its gap, how many words it lists, and its eight words.
+-- A slot as eleven numbers, for who reads many of its words: the two bounds of its gap, how many words it states, and its eight words.
 use Prim.Native.Nat.{ℕ, min}
 use mathlib.Core.Bool.{Bool, false}
 use mathlib.Core.Path.{_≡_}
@@ -9,6 +9,7 @@ use Rattle.pattern.specs.declared.slot.Slot.{Slot}
 use Rattle.pattern.specs.Patterns.{member}
 use Rattle.basics.specs.Choice.{pick}
 
+-- l has the eleven numbers of the slot
 pub record Numbers (s : Slot) (l : List ℕ) : Type 0 where
   pub is : l ≡ s .low ∷ s .high ∷ min (s .count) 8 ∷ s .words
   pub eight : length (s .words) ≡ 8

@@ -9,6 +9,7 @@ use Rattle.pattern.specs.declared.Pattern.{Pattern}
 
 -- ---- what a pattern says
 
+-- the word is in the list
 unfoldable pub member : ℕ → List ℕ → Bool
 member w [] = false
 member w (x ∷ xs) = eqb x w || member w xs
@@ -31,6 +32,7 @@ slotAt f j = getD (f .slots) j noSlot
 
 -- ---- how a pattern is made
 
+-- a slot that is not used: all its entries are 0
 abbrev pub emptySlot : Slot
 emptySlot = record { words = replicate 8 0; count = 0; low = 0; high = 0 }
 
@@ -38,6 +40,7 @@ emptySlot = record { words = replicate 8 0; count = 0; low = 0; high = 0 }
 abbrev pub emptyPattern : Pattern
 emptyPattern = record { slots = replicate 16 emptySlot; count = 0; least = 1; most = 20000 }
 
+-- the pattern with other span limits
 abbrev pub withSpan : Pattern → ℕ → ℕ → Pattern
 withSpan f least most = record { slots = f .slots; count = f .count; least = least; most = most }
 

@@ -3,6 +3,7 @@ use Prim.Native.Nat.{ℕ}
 use Rattle.pattern.specs.declared.refusal.Refusal.{Refusal}
 use Rattle.pattern.specs.declared.refusal.Refusal.the-variants.{SlotCount, WordCount, ZeroWord, Gap, Span, TextLength, RowLength, ListLength, Tally, Names, Values, FileLength, WordListLength, Client, Served}
 
+-- its number in the table
 abbrev pub numberOf : Refusal → ℕ
 numberOf SlotCount = 1
 numberOf (WordCount slot) = 2
@@ -20,6 +21,7 @@ numberOf WordListLength = 13
 numberOf Client = 14
 numberOf Served = 15
 
+-- its place: the slot, the line, the count, or 0
 abbrev pub placeOf : Refusal → ℕ
 placeOf SlotCount = 0
 placeOf (WordCount slot) = slot

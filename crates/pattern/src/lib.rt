@@ -37,9 +37,10 @@ impl Pattern {
     // The widest gap.
     pub const HIGH: u16 = 63;
 
-    // The span limits of a new pattern; the second is the largest there is.
+    // The least span limit of a new pattern, and the least there is.
     pub const LEAST: u16 = 1;
 
+    // The largest span limit of a new pattern, and the largest there is.
     pub const MOST: u16 = 20000;
 
     // The most words of a text.

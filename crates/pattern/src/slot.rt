@@ -83,7 +83,7 @@ impl Slot {
         slot
     }
 
-    // The slot as eleven numbers: the two bounds of its gap, how many words it lists, and its eight words.
+    // The slot as eleven numbers: the two bounds of its gap, how many words it states, and its eight words.
     pub fn numbers(self) -> [u16; 11]
         ensures { λ r. ⌜ Numbers self r ⌝ }
     {

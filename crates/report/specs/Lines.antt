@@ -39,6 +39,7 @@ entryLines m front back (suc n) = entryLines m front back n ++ (entryLine m fron
 
 -- ---- a report
 
+-- why the input is refused: the number and the place
 abbrev pub refusalReport : Refusal → List ℕ
 refusalReport why = closed (refusalNames ∷ values (numberOf why ∷ placeOf why ∷ []) ∷ [])
 

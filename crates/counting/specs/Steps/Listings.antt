@@ -9,6 +9,7 @@ use Rattle.matching.specs.Occurrences.{occurrencesIn}
 use Rattle.matching.specs.Spans.{width}
 use Rattle.counting.specs.Steps.Plans.{Known, knownView, Plan, planPattern, planRows, unbound}
 
+-- for any pattern
 pub record PutAll (f : Pattern) (n : ℕ) (T : List ℕ) (space : ℕ) : Type 0 where
   pub known : Known f n T
   pub room : length (occurrencesIn f (knownView known)) * f .count ≤ space

@@ -4,6 +4,7 @@ use mathlib.Core.List.{List}
 use lib.ListN.{getD}
 use Rattle.counting.specs.declared.halves.Wide.{Wide}
 
+-- the number in two halves
 abbrev pub value : Wide → ℕ
 value w = w .hi * 2 ^ 64 + w .lo
 

@@ -55,6 +55,7 @@ pub record Known (f : Pattern) (n : ℕ) (T : List ℕ) : Type 0 where
   pub input : Input f (record { places = n; fits = fits })
   pub table : Fitted f (record { places = n; fits = fits }) T
 
+-- that view
 abbrev pub knownView : {f : Pattern} {n : ℕ} {T : List ℕ} → Known f n T → View
 knownView {n = n} k = record { places = n; fits = k .fits }
 
@@ -67,12 +68,15 @@ pub record Plan (m n reach : ℕ) (low high T : List ℕ) : Type 0 where
   pub handed : Handed (record { slots = slots; count = m; least = least; most = most }) (record { places = n; fits = fits }) reach low high T
 
 module _ {m n reach : ℕ} {low high T : List ℕ} (g : Plan m n reach low high T) where
+  -- that pattern
   abbrev pub planPattern : Pattern
   planPattern = record { slots = g .slots; count = m; least = g .least; most = g .most }
 
+  -- that view
   abbrev pub planView : View
   planView = record { places = n; fits = g .fits }
 
+  -- all occurrences of the pattern in the view
   abbrev pub planRows : List (List ℕ)
   planRows = occurrencesIn planPattern planView
 
@@ -84,8 +88,10 @@ pub record Run (m reach : ℕ) (low high T : List ℕ) (w : Window) : Type 0 whe
   pub starts : w .starts ≤ w .places
 
 module _ {m reach : ℕ} {low high T : List ℕ} {w : Window} (g : Run m reach low high T w) where
+  -- the pattern of its plan
   abbrev pub runPattern : Pattern
   runPattern = planPattern (g .plan)
 
+  -- the view of its plan
   abbrev pub runView : View
   runView = planView (g .plan)

@@ -12,6 +12,7 @@ use Rattle.pattern.specs.Tests.{refuse, andThen, inputVerdict}
 use Rattle.pattern.specs.Laws.Accepting.{input-accepted, then-accepted, refuse-accepted}
 use Rattle.cursors.specs.Machine.{clientVerdict, nextVerdict}
 
+-- the client is one of the four
 pub record KnownClient (client : ℕ) : Type 0 where
   pub first : 1 ≤ client
   pub last : client ≤ 4
@@ -24,6 +25,7 @@ known-client {client} e =
     let h = eqb-false client 0 (a .0) in
     record { first = omega arith; last = ltb-false 4 client (b .0) }
 
+-- the tests of "next" are passed
 pub record Admitted (f : Pattern) (n client served : ℕ) : Type 0 where
   pub input : inputVerdict f n ≡ Accepted
   pub some : 1 ≤ f .count

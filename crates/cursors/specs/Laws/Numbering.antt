@@ -28,6 +28,7 @@ abbrev gives : Reply → ℕ
 gives (served outcome places) = givenBy outcome
 gives (turned verdict) = 0
 
+-- how many occurrences a list of replies gives
 unfoldable pub given : List Reply → ℕ
 given [] = 0
 given (reply ∷ replies) = gives reply + given replies

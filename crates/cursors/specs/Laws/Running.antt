@@ -6,6 +6,7 @@ use Rattle.cursors.specs.declared.Served.{Served}
 use Rattle.cursors.specs.Machine.{fresh}
 use Rattle.cursors.specs.Calls.{Call, Reply, replyOf, rewindStep, step, run, History, ended, nexts, rewinds}
 
+-- replies and last state are those of the machine
 pub record Machine (calls : List Call) (s : Cursors) (replies : List Reply) (last : Cursors) : Type 0 where
   pub answers : replies ≡ run calls s .replies
   pub state : last ≡ run calls s .state

@@ -20,6 +20,7 @@ use Rattle.excerpts.specs.Answers.{testedBy, isOccurrence, ifOccurrence,
 
 -- ---- what a row that is an occurrence brings
 
+-- the tests are passed, and the row is an occurrence
 pub record Hit (f : Pattern) (t row : List ℕ) : Type 0 where
   pub accepted : RowAccepted f t row
   pub occurs : Occurs f t row

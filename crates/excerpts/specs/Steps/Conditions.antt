@@ -25,14 +25,17 @@ pub record PlaceFits (s : Slot) (t : List ℕ) (p : ℕ) : Type 0 where
   pub high : p ≤ length t
   pub word : takesAt s t p ≡ true
 
+-- between the places a and b stand low to high words
 pub record GapFits (a b low high : ℕ) : Type 0 where
   pub least : a + low + 1 ≤ b
   pub most : b ≤ a + high + 1
 
+-- from the first place to the last there are least to most
 pub record SpanFits (first last least most : ℕ) : Type 0 where
   pub low : first + least ≤ last + 1
   pub high : last + 1 ≤ first + most
 
+-- each place of the row fits its slot
 abbrev pub WordsFit : Pattern → List ℕ → List ℕ → Type 0
 WordsFit f t r = (j : ℕ) → j < f .count → PlaceFits (slotAt f j) t (at r j)
 

@@ -42,6 +42,7 @@ pub free-digits : (sep n : ℕ) → sep < 48 → Free sep (digits n)
 unfolding digits
 free-digits sep n h = free-in 4 sep n h
 
+-- none of the lines has the byte
 pub data AllFree (sep : ℕ) : List (List ℕ) → Type 0 where
   all-none : AllFree sep []
   all-also : {l : List ℕ} {ls : List (List ℕ)} → Free sep l → AllFree sep ls → AllFree sep (l ∷ ls)

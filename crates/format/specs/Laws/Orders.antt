@@ -7,6 +7,7 @@ use lib.ListN.{length, getD}
 use Rattle.format.specs.Shown.{Order2, Order3, hlw, hwl, lhw, lm, lwh, ml, three, two, whl, wlh}
 use Rattle.format.specs.declared.names.Columns.{Columns}
 
+-- the columns of `low`, `high` and `words`
 abbrev pub cols : ℕ → ℕ → ℕ → Columns
 cols i j k = record { low = i; high = j; words = k }
 

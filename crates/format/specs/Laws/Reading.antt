@@ -40,6 +40,7 @@ pub record ShowsPattern (s : List ℕ) (f : Pattern) : Type 0 where
   pub is : f ≡ shownPattern least most slots
   pub limits : Accepted f
 
+-- what is answered for an accepted pattern
 abbrev pub accepted : Pattern → PatternRead
 accepted f = record { verdict = Fine; pattern = f }
 

@@ -24,6 +24,7 @@ module _ (m : ℕ) (Hit : List ℕ → Type 0) where
   abbrev pub Backward : List ℕ → List (List ℕ) → Type 0
   Backward = Greedy Hit (After m) (NotBefore m)
 
+  -- the hits are closed under minimum and maximum, and lie between two rows of marks
   pub record BoundedLattice (first last : List ℕ) : Type 0 where
     pub lattice : Sublattice Hit
     pub after-first : (r : List ℕ) → Hit r → Before m first r

@@ -39,6 +39,7 @@ unfolding only when
 length-only true xs = refl
 length-only false xs = refl
 
+-- the row starts at the place p
 pub data Starts (p : ℕ) : List ℕ → Type 0 where
   starts : {r : List ℕ} → Starts p (p ∷ r)
 
@@ -157,9 +158,11 @@ module _ (f : Pattern) (v : View) (stop : ℕ → ℕ) (from : ℕ) where
 
 -- the stop of each slot, and the least last place, for each first place
 module _ (f : Pattern) (v : View) (stops : ℕ → ℕ → ℕ) (froms : ℕ → ℕ) where
+  -- the rows that start at the place p
   unfoldable pub tree : ℕ → List (List ℕ)
   tree p = branches f v (stops p) (froms p) (f .count - 1) 0 p
 
+  -- those of every place
   unfoldable pub forest : List (List ℕ)
   forest = gather tree (places 1 (v .places))
 

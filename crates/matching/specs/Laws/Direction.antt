@@ -13,6 +13,7 @@ use Rattle.matching.specs.Laws.Rows.{at-meet, at-join}
 module _ (m : ℕ) (_≺_ _≼_ : List ℕ → List ℕ → Type 0) (near : List ℕ → List ℕ → List ℕ) where
   infix 40 _≺_
   infix 40 _≼_
+  -- what is asked of a direction
   pub record Direction : Type 0 where
     pub past-trans : (r s t : List ℕ) → r ≺ s → s ≺ t → r ≺ t
     pub past-apart : (r s : List ℕ) → r ≺ s → Apart m r s

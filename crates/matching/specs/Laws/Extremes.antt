@@ -22,10 +22,11 @@ use Rattle.matching.specs.Laws.Greedy.{greedy-unique}
 use Rattle.matching.specs.Laws.Searching.{Searchable, search-some, search-none, some-search, none-search, follow-greedy}
 use Rattle.matching.specs.Laws.Bounding.{Forward, Backward}
 
--- the front list, and the back list from its last row on
+-- the front list
 abbrev pub FrontIn : Pattern → View → List (List ℕ) → Type 0
 FrontIn f v = Forward (f .count) (OccursIn f v) (level (f .count) 0)
 
+-- the back list from its last row on
 abbrev pub BackIn : Pattern → View → List (List ℕ) → Type 0
 BackIn f v = Backward (f .count) (OccursIn f v) (level (f .count) 65535)
 

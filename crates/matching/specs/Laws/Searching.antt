@@ -18,6 +18,7 @@ use Rattle.matching.specs.Laws.Greedy.{Greedy, done, next}
 
 module _ (Hit : List ℕ → Type 0) (_≺_ : List ℕ → List ℕ → Type 0) where
   infix 40 _≺_
+  -- the list has just the hits; the test says which are past; the nearer of two hits is a hit; a hit past another is deeper
   pub record Searchable (hits : List (List ℕ)) (past : List ℕ → List ℕ → Bool) (near : List ℕ → List ℕ → List ℕ) (depth : List ℕ → ℕ) : Type 0 where
     pub sound : Every Hit hits
     pub complete : (r : List ℕ) → Hit r → List·Memᴰ r hits

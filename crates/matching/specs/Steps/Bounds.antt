@@ -30,17 +30,19 @@ pub record Ahead (j m y high least z : ℕ) : Type 0 where
   pub before : j + 1 < m → y ≤ z + high + 1
   pub ends : j + 1 ≡ m → y + least ≤ z + 1
 
+-- what its own place and both neighbours ask
 pub record Between (j m own x y low high least most z : ℕ) : Type 0 where
   pub self : own ≤ z
   pub behind : Behind j x low most z
   pub ahead : Ahead j m y high least z
 
--- r is the slot before j of m in a ring, or after it
+-- r is the slot before j of m in a ring
 pub record Prior (m j r : ℕ) : Type 0 where
   pub back : 0 < j → r ≡ j - 1
   pub round : j ≡ 0 → r ≡ m - 1
   pub inside : r < m
 
+-- r is the slot after j of m in a ring
 pub record Next (m j r : ℕ) : Type 0 where
   pub on : j + 1 < m → r ≡ j + 1
   pub round : j + 1 ≡ m → r ≡ 0

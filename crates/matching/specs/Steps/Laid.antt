@@ -19,6 +19,7 @@ pub record SlotLaid (s : Slot) (a : ℕ) (l₀ l : List ℕ) : Type 0 where
   pub slot : LaidSlot s a l
   pub before : (k : ℕ) → k < a → at l k ≡ at l₀ k
 
+-- every slot of the pattern is laid out in l, eleven numbers a slot
 pub record LaidOut (f : Pattern) (l : List ℕ) : Type 0 where
   pub size : length l ≡ 176
   pub slot : (j : ℕ) → j < f .count → LaidSlot (slotAt f j) (11 * j) l
@@ -33,6 +34,7 @@ pub record Plan (n m least most : ℕ) (l : List ℕ) : Type 0 where
   pub ready : Ready (laidPattern slots m least most) n
   pub laid : LaidOut (laidPattern slots m least most) l
 
+-- the pattern of a plan
 abbrev pub planned : {n m least most : ℕ} {l : List ℕ} → Plan n m least most l → Pattern
 planned {m = m} {least} {most} w = laidPattern (w .slots) m least most
 

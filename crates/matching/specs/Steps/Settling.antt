@@ -95,9 +95,11 @@ pub record Reported (m : ℕ) (Nearest : List ℕ → Type 0) (None : Type 0) (a
   pub rest : a .found ≡ true → (j : ℕ) → m ≤ j → at (a .places) j ≡ 0
   pub none : a .found ≡ false → None
 
+-- no occurrence is past the marks at every slot
 abbrev pub NoneAfter : Pattern → View → List ℕ → Type 0
 NoneAfter f v marks = (q : List ℕ) → OccursIn f v q → Before (f .count) marks q → ⊥
 
+-- no occurrence is before the marks at every slot
 abbrev pub NoneBefore : Pattern → View → List ℕ → Type 0
 NoneBefore f v marks = (q : List ℕ) → OccursIn f v q → Before (f .count) q marks → ⊥
 

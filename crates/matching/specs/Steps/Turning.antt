@@ -33,12 +33,14 @@ pub record TurnedSlot (f : Pattern) (j : ℕ) (s : Slot) : Type 0 where
   pub low : (i : ℕ) → i + j ≡ f .count → 0 < j → s .low ≡ slotAt f i .low
   pub high : (i : ℕ) → i + j ≡ f .count → 0 < j → s .high ≡ slotAt f i .high
 
+-- g is the pattern f read from the end
 pub record Turned (f g : Pattern) : Type 0 where
   pub count : g .count ≡ f .count
   pub least : g .least ≡ f .least
   pub most : g .most ≡ f .most
   pub slot : (j : ℕ) → j < f .count → TurnedSlot f j (slotAt g j)
 
+-- r is the row of m places, read from the end of a text of n words, and 0 past them
 pub record Flipped (m n : ℕ) (row r : List ℕ) : Type 0 where
   pub size : length r ≡ 16
   pub turn : (i j : ℕ) → i + j + 1 ≡ m → at r j ≡ n + 1 - at row i
