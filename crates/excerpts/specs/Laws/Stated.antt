@@ -6,7 +6,7 @@ use mathlib.Core.List.{List}
 use Rattle.pattern.specs.declared.Pattern.{Pattern}
 use Rattle.pattern.specs.Stated.{SameStated}
 use Rattle.matching.specs.Laws.Stated.{plain-same, occurs-same, row-same}
-use Rattle.hits.specs.Answers.{isOccurrence, excerptOf, excerptStart}
+use Rattle.excerpts.specs.Answers.{isOccurrence, excerptOf, excerptStart}
 
 module _ {f g : Pattern} (same : SameStated f g) (t row : List ℕ) where
   pub test-same : isOccurrence f t row ≡ isOccurrence g t row

@@ -14,7 +14,7 @@ use Rattle.pattern.specs.Laws.Stated.{takes-same, input-same}
 use Rattle.matching.specs.Occurrence.{View, plain, at, wordAt}
 use Rattle.matching.specs.Occurrences.{within, occursIn, occurrencesIn, occurrences}
 use Rattle.matching.specs.Lists.{leftmostIn, rightmostIn, leftmost, rightmost}
-use Rattle.matching.specs.Answers.{rowVerdict, firstAfter, lastBefore, listed, filled, counted}
+use Rattle.matching.specs.Answers.{rowVerdict, firstAfter, lastBefore, listed, filled, frontListed, frontWritten, backListed, backWritten, counted}
 use Rattle.matching.specs.Laws.Tests.{each-same}
 
 -- two views are the same to a pattern of m slots
@@ -72,14 +72,10 @@ module _ {f g : Pattern} (same : SameStated f g) where
         rw (leftmost-same (plain-same t), rightmost-same (plain-same t), occurrences-same (plain-same t), input-same same (length t), same .count)
 
     -- the answer of the front list's call, and what the caller's list l then holds; the same of the back list; the count
-    pub front-same : (l : List ℕ)
-        → (listed (inputVerdict f (length t)) (f .count) (leftmost f t) (length l) ≡ listed (inputVerdict g (length t)) (g .count) (leftmost g t) (length l))
-        × (filled (inputVerdict f (length t)) (f .count) (leftmost f t) l ≡ filled (inputVerdict g (length t)) (g .count) (leftmost g t) l)
+    pub front-same : (l : List ℕ) → (frontListed f t (length l) ≡ frontListed g t (length l)) × (frontWritten f t l ≡ frontWritten g t l)
     front-same l = (answers-same (λ v m H F B. listed v m F (length l)), answers-same (λ v m H F B. filled v m F l))
 
-    pub back-same : (l : List ℕ)
-        → (listed (inputVerdict f (length t)) (f .count) (rightmost f t) (length l) ≡ listed (inputVerdict g (length t)) (g .count) (rightmost g t) (length l))
-        × (filled (inputVerdict f (length t)) (f .count) (rightmost f t) l ≡ filled (inputVerdict g (length t)) (g .count) (rightmost g t) l)
+    pub back-same : (l : List ℕ) → (backListed f t (length l) ≡ backListed g t (length l)) × (backWritten f t l ≡ backWritten g t l)
     back-same l = (answers-same (λ v m H F B. listed v m B (length l)), answers-same (λ v m H F B. filled v m B l))
 
     pub count-same : counted (inputVerdict f (length t)) (leftmost f t) ≡ counted (inputVerdict g (length t)) (leftmost g t)

@@ -7,7 +7,7 @@ use mathlib.Core.List.{List, [], _∷_}
 use lib.ListN.{length, getD, take}
 use Rattle.pattern.specs.declared.slot.Slot.{Slot}
 use Rattle.pattern.specs.declared.Pattern.{Pattern}
-use Rattle.pattern.specs.Patterns.{listed, takes, member}
+use Rattle.pattern.specs.Patterns.{stated, takes, member}
 use Rattle.pattern.specs.Tests.{slotVerdict, slotsVerdict, patternVerdict, inputVerdict}
 use Rattle.pattern.specs.Stated.{SameSlot, SameStated}
 
@@ -22,12 +22,12 @@ take-same (suc n) (x ∷ l) (y ∷ m) e h =
     rw (first, rest)
 
 -- the same words
-pub listed-same : {s u : Slot} → SameSlot s u → listed s ≡ listed u
-listed-same {s} {u} same = rw (← same .count) (take-same (s .count) (s .words) (u .words) (same .long) (same .word))
+pub stated-same : {s u : Slot} → SameSlot s u → stated s ≡ stated u
+stated-same {s} {u} same = rw (← same .count) (take-same (s .count) (s .words) (u .words) (same .long) (same .word))
 
 pub takes-same : {s u : Slot} → SameSlot s u → (w : ℕ) → takes s w ≡ takes u w
 unfolding takes
-takes-same same w = ap (λ (l : List ℕ). member w l) (listed-same same)
+takes-same same w = ap (λ (l : List ℕ). member w l) (stated-same same)
 
 slot-same : {s u : Slot} → SameSlot s u → (k : ℕ) → slotVerdict k s ≡ slotVerdict k u
 unfolding slotVerdict
