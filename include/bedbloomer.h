@@ -11,6 +11,8 @@
  * A call keeps no pointer and no state, so calls on several threads do not meet. `number` is the refusal's number
  * (README.md, "Refusals"), 0 where nothing is refused.
  *
+ * In a text the word 0 ends a sentence: no occurrence has one strictly between its first and its last place.
+ *
  * The structures are those of x86-64 Linux; examples/layout.c states their sizes and offsets.
  */
 #ifndef BEDBLOOMER_H

@@ -45,6 +45,16 @@ impl Bits {
         self
     }
 
+    /// The numbers of this set that are below `bound`.
+    pub fn below(mut self, bound: usize) -> Bits {
+        let whole = (bound / 64).min(self.0.len());
+        if let Some(block) = self.0.get_mut(whole) {
+            *block &= !(u64::MAX << (bound % 64));
+        }
+        self.0.iter_mut().skip(whole + 1).for_each(|block| *block = 0);
+        self
+    }
+
     /// The set's smallest number.
     pub fn smallest(&self) -> Option<usize> {
         let block = self.0.iter().position(|&block| block != 0)?;
@@ -123,6 +133,17 @@ mod tests {
     /// The set's numbers, one by one.
     fn numbers(set: &Bits) -> Vec<usize> {
         (0..ROOM).filter(|&number| set.contains(number)).collect()
+    }
+
+    /// Cutting sets in two agrees with cutting their numbers.
+    #[test]
+    fn cuts() {
+        let set = Bits::of(|number| number % 3 == 0 || number % 64 > 61);
+        for bound in (0..ROOM + 200).chain([usize::MAX]) {
+            let (below, above): (Vec<usize>, Vec<usize>) = numbers(&set).iter().partition(|&&number| number < bound);
+            assert_eq!(numbers(&set.below(bound)), below);
+            assert_eq!(numbers(&set.without_first(bound)), above);
+        }
     }
 
     /// Moving sets agrees with moving their numbers.

@@ -26,13 +26,19 @@ pub fn is_occurrence(pattern: &Pattern, text: &[u16], row: &[u16]) -> bool {
         let gap = i64::from(row[at]) - i64::from(row[at - 1]) - 1;
         i64::from(slots[at].low) <= gap && gap <= i64::from(slots[at].high)
     });
-    words_fit && gaps_fit && span_fits(pattern, row)
+    words_fit && gaps_fit && span_fits(pattern, row) && keeps_to_one_sentence(text, row)
 }
 
 /// Whether the row's span lies within the pattern's limits.
 fn span_fits(pattern: &Pattern, row: &[u16]) -> bool {
     let span = i64::from(row[row.len() - 1]) - i64::from(row[0]) + 1;
     i64::from(pattern.least) <= span && span <= i64::from(pattern.most)
+}
+
+/// Whether no word of the text strictly between the row's first and last place is a sentence end, for any row.
+pub fn keeps_to_one_sentence(text: &[u16], row: &[u16]) -> bool {
+    let (first, last) = (row[0] as usize, row[row.len() - 1] as usize);
+    (first + 1..last).all(|place| text.get(place - 1) != Some(&0))
 }
 
 /// All occurrences, first place first, ties by the next slot, for a pattern and a text within the limits.
@@ -54,9 +60,13 @@ fn complete(pattern: &Pattern, text: &[u16], begun: &mut Row, found: &mut Vec<Ro
         }
         return;
     };
-    for gap in slot.low..=slot.high {
+    for gap in 0..=slot.high {
         let place = begun[begun.len() - 1] + 1 + gap;
-        if stands(slot, text, place) {
+        // A phrase stops at the full stop: no later place is in the same sentence.
+        if text.get(place as usize - 1) == Some(&0) {
+            return;
+        }
+        if gap >= slot.low && stands(slot, text, place) {
             begun.push(place);
             complete(pattern, text, begun, found);
             begun.pop();

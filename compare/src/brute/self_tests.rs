@@ -1,14 +1,15 @@
 //! The brute force against the scope's examples, and its methods against each other.
 
-use super::occurrences::occurrences;
+use super::occurrences::{keeps_to_one_sentence, occurrences};
 use super::*;
 use crate::cases::files::{plain_pattern_file, text_file};
 use crate::cases::inputs::sevens;
 use crate::cases::lines::small_files;
 use crate::cases::random::{any_marks, any_pattern, any_text, Kind};
+use crate::cases::sentences::{cut_at, joined, sentences, without_stops};
 use crate::cases::small::{patterns, texts, tuples};
-use crate::cases::tallies::{one_below_power, power, sixteen_words, thresholds};
-use crate::cases::worked::{Rows, EXAMPLE_INPUT, EXAMPLE_OUTPUT, TEXTS};
+use crate::cases::tallies::{equal_sentences, one_below_power, power, sixteen_words, thresholds};
+use crate::cases::worked::{Rows, CUT_INPUT, CUT_OUTPUT, CUT_TEXTS, EXAMPLE_INPUT, EXAMPLE_OUTPUT, TEXTS};
 use crate::cases::{pattern, ANY_SPAN};
 use crate::layout::Cursors;
 use crate::rng::Rng;
@@ -20,14 +21,19 @@ fn assert_rows(named: Option<Rows>, rows: &[Row]) {
     }
 }
 
-/// The nine texts, by both methods.
+/// The nine texts and those with sentence ends, by both methods.
 #[test]
 fn worked_texts() {
-    for case in &TEXTS {
+    for case in TEXTS.iter().chain(&CUT_TEXTS) {
         let pattern = pattern(case.span, case.slots);
         let listed = Brute::enumerated(&pattern, case.text);
         let sieved = Brute::windowed(&pattern, case.text);
         assert_rows(case.all, &listed.searcher().unwrap().all());
+        assert_rows(case.all, &sieved.searcher().unwrap().all());
+        assert_eq!(listed.tally(), sieved.tally());
+        for row in case.all.into_iter().flatten() {
+            assert_eq!(listed.is_occurrence(row).value, 1);
+        }
         assert_rows(case.front, listed.front().unwrap());
         assert_rows(case.front, sieved.front().unwrap());
         assert_rows(case.back, listed.back().unwrap());
@@ -40,10 +46,49 @@ fn worked_texts() {
     }
 }
 
-/// The program's example, byte for byte.
+/// The program's example and the one with sentence ends, byte for byte.
 #[test]
-fn worked_report() {
+fn worked_reports() {
     assert_eq!(report(EXAMPLE_INPUT), EXAMPLE_OUTPUT);
+    assert_eq!(report(CUT_INPUT), CUT_OUTPUT);
+}
+
+/// A sentence end counts strictly between a row's first and last place, and there alone; the row is any row.
+#[test]
+fn sentence_ends_between() {
+    let across = |text: &[u16], row: &[u16]| !keeps_to_one_sentence(text, row);
+    let text = [0, 1, 0, 1, 1, 1, 0];
+    let one_sentence: [&[u16]; 9] = [&[1], &[3], &[1, 2], &[2, 3], &[1, 3], &[3, 7], &[4, 5, 6], &[7, 1], &[9, 99]];
+    let several: [&[u16]; 7] = [&[2, 4], &[1, 4], &[2, 5], &[2, 7], &[6, 8], &[0, 2], &[4, 1, 65_535]];
+    assert!(one_sentence.iter().all(|row| !across(&text, row)));
+    assert!(several.iter().all(|row| across(&text, row)));
+    // With one 0 in the text, the rows across it are those that begin before it and end after it.
+    for place in 1..=9 {
+        let text = cut_at(&[place as usize], vec![1; 9]);
+        for row in tuples(&(0..=11).collect::<Vec<u16>>(), 2) {
+            assert_eq!(across(&text, &row), row[0] < place && place < row[1]);
+        }
+    }
+}
+
+/// A 0 at each place in turn, for a row of three slots: it leaves the row an occurrence outside it alone.
+#[test]
+fn a_stop_at_each_place() {
+    let pattern = pattern(ANY_SPAN, &[(0, 0, &[1]), (1, 1, &[2]), (1, 1, &[3])]);
+    let text = vec![9, 9, 1, 9, 2, 9, 3, 9, 9];
+    for place in 1..=9 {
+        let cut = cut_at(&[place], text.clone());
+        let counts = u64::from([1, 2, 8, 9].contains(&place));
+        let (listed, sieved) = (Brute::enumerated(&pattern, &cut), Brute::windowed(&pattern, &cut));
+        assert_eq!(listed.is_occurrence(&[3, 5, 7]).value, counts);
+        assert_eq!(listed.excerpt(&[3, 5, 7], 0).length as u64, 5 * counts);
+        for found in [listed.first_after(&[0; 3]), listed.last_before(&[99; 3]), sieved.first_after(&[0; 3])] {
+            assert_eq!(found.found, counts);
+        }
+        for number in [listed.support(), listed.tally(), sieved.support(), sieved.tally()] {
+            assert_eq!(number.value, counts);
+        }
+    }
 }
 
 /// What a file with these slot lines and span limits is refused with.
@@ -150,12 +195,18 @@ fn ends_of_lines() {
 fn tallies_at_the_limit() {
     let pattern = sixteen_words();
     let tallied = |text: &[u16]| Brute::windowed(&pattern, text).tallied();
-    assert_eq!(tallied(&one_below_power(16)), Ok((1 << 64) - 1));
-    assert_eq!(tallied(&power(16)), Ok(1 << 64));
-    assert_eq!(tallied(&power(15)), Ok(1 << 60));
-    for (pattern, words) in thresholds() {
-        assert_eq!(Brute::windowed(&pattern, &vec![7; words - 1]).tally().number, 0);
-        assert_eq!(Brute::windowed(&pattern, &vec![7; words]).tally().number, 9);
+    for zeros in [1, 64] {
+        assert_eq!(tallied(&one_below_power(16, zeros)), Ok((1 << 64) - 1));
+        assert_eq!(tallied(&power(16, zeros)), Ok(1 << 64));
+        assert_eq!(tallied(&power(15, zeros)), Ok(1 << 60));
+    }
+    assert_eq!(tallied(&equal_sentences(16)), Ok(1 << 64));
+    assert_eq!(tallied(&[equal_sentences(15), one_below_power(15, 1)].concat()), Ok((1 << 64) - 1));
+    for (pattern, words, others) in thresholds() {
+        let refused = |text: &[u16]| Brute::windowed(&pattern, text).tally().number;
+        let full = vec![7; words - 1];
+        assert_eq!([refused(&full), refused(&vec![7; words])], [0, 9]);
+        assert_eq!([others - 1, others].map(|others| refused(&joined(&full, &vec![7; others]))), [0, 9]);
     }
 }
 
@@ -182,11 +233,45 @@ fn occurrences_are_all_rows_that_pass() {
     let gaps = [(0, 0), (0, 2), (1, 2)];
     let spans = [ANY_SPAN, (4, 5)];
     for pattern in patterns(3, &[&[1], &[1, 2]], &gaps, &spans) {
-        for text in texts(&[1, 2], 5) {
+        for text in texts(&[0, 1, 2], 5) {
             let places: Vec<u16> = (0..=text.len() as u16 + 1).collect();
             let mut rows = tuples(&places, 3);
             rows.retain(|row| is_occurrence(&pattern, &text, row));
             assert_eq!(occurrences(&pattern, &text), rows);
+        }
+    }
+}
+
+/// The rows, each place moved by this.
+fn moved(rows: &[Row], by: u16) -> Vec<Row> {
+    rows.iter().map(|row| row.iter().map(|place| place + by).collect()).collect()
+}
+
+/// The occurrences are those of the sentences one after another, and those of the text without sentence ends that have
+/// no 0 in their excerpt; the lists are those of the sentences one after another.
+#[test]
+fn occurrences_sentence_by_sentence() {
+    let gaps = [(0, 1), (0, 3)];
+    for pattern in [patterns(1, &[&[1]], &gaps, &[ANY_SPAN]), patterns(3, &[&[1], &[1, 2]], &gaps, &[(3, 5)])].concat()
+    {
+        for text in texts(&[0, 1, 2], 7) {
+            let (listed, sieved) = (Brute::enumerated(&pattern, &text), Brute::windowed(&pattern, &text));
+            let rows = listed.searcher().unwrap().rows();
+            let (mut all, mut front, mut back) = (Vec::new(), Vec::new(), Vec::new());
+            for (before, sentence) in sentences(&text) {
+                let alone = Brute::enumerated(&pattern, sentence);
+                all.extend(moved(alone.searcher().unwrap().rows(), before));
+                front.extend(moved(alone.front().unwrap(), before));
+                back.extend(moved(alone.back().unwrap(), before));
+            }
+            assert_eq!((rows, listed.front().unwrap(), listed.back().unwrap()), (&all[..], &front[..], &back[..]));
+            assert_eq!((sieved.front().unwrap(), sieved.back().unwrap()), (&front[..], &back[..]));
+            assert_eq!((sieved.searcher().unwrap().all(), sieved.tallied()), (all, Ok(rows.len() as u128)));
+            let excerpt = |row: &Row| &text[row[0] as usize - 1..row[row.len() - 1] as usize];
+            let mut kept = occurrences(&pattern, &without_stops(&pattern, &text));
+            kept.retain(|row| !excerpt(row).contains(&0));
+            assert_eq!(rows, kept);
+            assert_eq!(front.len(), largest_size(rows));
         }
     }
 }

@@ -1,15 +1,18 @@
-//! The tally in long texts: for each first place, the ways to reach each later place, slot after slot.
+//! The tally in long texts: for each first place, the ways to reach each later place of its sentence, slot after slot.
 
-use super::occurrences::{slots, stands, takes};
+use super::occurrences::{slots, takes};
 use crate::layout::{Pattern, Slot};
 
 /// How many occurrences there are; below 20,000 · 64^15 < 2^105, so it never overflows.
 pub fn tally(pattern: &Pattern, text: &[u16]) -> u128 {
-    let first_slot = &pattern.slots[0];
-    (1..=text.len())
-        .filter(|&first| stands(first_slot, text, first as u16))
-        .map(|first| tally_from(pattern, &text[first - 1..]))
-        .sum()
+    text.split(|&word| word == 0).map(|sentence| tally_in(pattern, sentence)).sum()
+}
+
+/// How many occurrences there are in one sentence.
+fn tally_in(pattern: &Pattern, sentence: &[u16]) -> u128 {
+    let begins = |first: &usize| takes(&pattern.slots[0], sentence[*first]);
+    let firsts = (0..sentence.len()).filter(begins);
+    firsts.map(|first| tally_from(pattern, &sentence[first..])).sum()
 }
 
 /// How many occurrences begin at the first of these words, which the first slot takes.

@@ -1,7 +1,7 @@
 //! Searches in long texts: for each first place, a sieve over the places within reach of it.
 
 use super::bits::{Bits, ROOM};
-use super::occurrences::{is_occurrence, slots, stands};
+use super::occurrences::{is_occurrence, slots, stands, takes};
 use super::rows::{slot_by_slot, Row, Searcher};
 use super::ways::tally;
 use crate::layout::Pattern;
@@ -42,6 +42,15 @@ fn mirrored(pattern: &Pattern) -> Pattern {
     mirror
 }
 
+/// The places, as bits, of the words that `holds` says yes to, with room past the text's end.
+fn places(text: &[u16], holds: impl Fn(u16) -> bool) -> Vec<u64> {
+    let mut places = vec![0; text.len() / 64 + ROOM / 64 + 2];
+    for (at, _) in text.iter().enumerate().filter(|(_, &word)| holds(word)) {
+        places[(at + 1) / 64] |= 1 << ((at + 1) % 64);
+    }
+    places
+}
+
 impl Searcher for Windowed {
     fn slots(&self) -> usize {
         self.ahead.pattern.count
@@ -65,27 +74,23 @@ impl Searcher for Windowed {
     }
 }
 
-/// A pattern and a text, with the places that each slot may take.
+/// A pattern and a text, with the places that each slot may take, and those of the sentence ends.
 struct Sieve {
     pattern: Pattern,
     text: Vec<u16>,
     taken: Vec<Vec<u64>>,
+    stops: Vec<u64>,
     within_span: Bits,
 }
 
 impl Sieve {
-    /// Works out the places that each slot may take.
+    /// Works out the places that each slot may take, and those of the sentence ends.
     fn new(pattern: Pattern, text: Vec<u16>) -> Sieve {
-        let blocks = text.len() / 64 + ROOM / 64 + 2;
-        let mut taken = vec![vec![0; blocks]; pattern.count];
-        for (slot, taken) in slots(&pattern).iter().zip(&mut taken) {
-            for place in (1..=text.len()).filter(|&place| stands(slot, &text, place as u16)) {
-                taken[place / 64] |= 1u64 << (place % 64);
-            }
-        }
+        let taken = slots(&pattern).iter().map(|slot| places(&text, |word| takes(slot, word))).collect();
+        let stops = places(&text, |word| word == 0);
         let spans = pattern.least as usize..=pattern.most as usize;
         let within_span = Bits::of(|offset| spans.contains(&(offset + 1)));
-        Sieve { pattern, text, taken, within_span }
+        Sieve { pattern, text, taken, stops, within_span }
     }
 
     /// The earliest place at every slot over all occurrences past the marks; it must be an occurrence.
@@ -129,7 +134,7 @@ impl Sieve {
             kept.push(kept[at - 1].raised(low + 1, high + 1).and(&open));
         }
         let last = slots.len() - 1;
-        kept[last] = kept[last].and(&self.within_span);
+        kept[last] = kept[last].and(&self.within_span).below(self.next_stop(first));
         for at in (0..last).rev() {
             let (low, high) = (slots[at + 1].low as usize, slots[at + 1].high as usize);
             kept[at] = kept[at].and(&kept[at + 1].lowered(low + 1, high + 1));
@@ -163,6 +168,11 @@ impl Sieve {
                 begun.pop();
             }
         }
+    }
+
+    /// The offset from `first` of the next sentence end; where none is within reach, the first offset out of reach.
+    fn next_stop(&self, first: u16) -> usize {
+        Bits::cut(&self.stops, first as usize).smallest().unwrap_or(ROOM)
     }
 
     /// The offsets from `first` at which a slot may take the word and which lie past its mark.

@@ -1,7 +1,8 @@
 //! Inputs of the program: good ones, refused ones, and those at its limits.
 
 use super::files::{input, plain_pattern_file, text_file};
-use super::worked::{EXAMPLE_INPUT, TEXTS};
+use super::sentences::{cut_at, cut_every, joined};
+use super::worked::{CUT_INPUT, CUT_TEXTS, EXAMPLE_INPUT, TEXTS};
 use super::{pattern, Written, ANY_SPAN};
 
 /// So many slots that take the word 7, with these gaps between them.
@@ -18,13 +19,17 @@ pub fn sevens(slots: usize, low: u16, high: u16) -> Vec<Written<'static>> {
 
 /// The input for these slots and a text of so many sevens.
 fn sevens_input(slots: &[Written], words: usize) -> Vec<u8> {
-    let file = plain_pattern_file(&pattern(ANY_SPAN, slots));
-    input(&file, &text_file(&vec![7; words]))
+    any_span_input(slots, &vec![7; words])
+}
+
+/// The input for these slots, without span limits that bind, and a text.
+fn any_span_input(slots: &[Written], text: &[u16]) -> Vec<u8> {
+    input(&plain_pattern_file(&pattern(ANY_SPAN, slots)), &text_file(text))
 }
 
 /// The worked texts as inputs.
 fn worked() -> Vec<Vec<u8>> {
-    let worked = TEXTS.iter().map(|case| {
+    let worked = TEXTS.iter().chain(&CUT_TEXTS).map(|case| {
         let file = plain_pattern_file(&pattern(case.span, case.slots));
         input(&file, &text_file(case.text))
     });
@@ -57,6 +62,31 @@ fn at_limits() -> Vec<Vec<u8>> {
     inputs.push(padded(&full, 60_001));
     inputs.push(vec![b'\n'; 60_000]);
     inputs.push(vec![b'\n'; 60_001]);
+    inputs
+}
+
+/// Inputs on both sides of the room for lists and of the tally's limit, their texts cut by sentence ends.
+fn cut_at_limits() -> Vec<Vec<u8>> {
+    let wide = sevens(16, 0, 63);
+    let mut inputs: Vec<Vec<u8>> = [
+        (sevens(1, 0, 0), cut_every(5, vec![7; 20_000])),
+        (sevens(1, 0, 0), cut_every(6, vec![7; 20_000])),
+        (sevens(2, 0, 0), cut_every(2, vec![7; 20_000])),
+        (sevens(2, 0, 63), cut_every(5, vec![7; 13_333])),
+        (sevens(2, 0, 63), cut_every(5, vec![7; 13_334])),
+        (wide.clone(), joined(&[7; 116], &[7; 116])),
+        (wide.clone(), joined(&[7; 117], &[7; 1])),
+        (wide.clone(), joined(&[7; 1], &[7; 117])),
+        (wide.clone(), cut_every(16, vec![7; 1_000])),
+        (wide.clone(), cut_every(17, vec![7; 1_000])),
+        (wide.clone(), cut_every(117, vec![7; 1_000])),
+    ]
+    .iter()
+    .map(|(slots, text)| any_span_input(slots, text))
+    .collect();
+    for place in [1, 2, 16, 17, 59, 101, 116, 117] {
+        inputs.push(any_span_input(&wide, &cut_at(&[place], vec![7; 117])));
+    }
     inputs
 }
 
@@ -113,6 +143,6 @@ fn odd() -> Vec<Vec<u8>> {
 
 /// Some dozens of inputs.
 pub fn inputs() -> Vec<Vec<u8>> {
-    let example = vec![EXAMPLE_INPUT.to_vec()];
-    [example, worked(), at_limits(), odd()].concat()
+    let examples = vec![EXAMPLE_INPUT.to_vec(), CUT_INPUT.to_vec()];
+    [examples, worked(), at_limits(), cut_at_limits(), odd()].concat()
 }

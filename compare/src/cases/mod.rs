@@ -4,6 +4,7 @@ pub mod files;
 pub mod inputs;
 pub mod lines;
 pub mod random;
+pub mod sentences;
 pub mod small;
 pub mod tallies;
 pub mod worked;

@@ -63,10 +63,19 @@ fn any_slot(rng: &mut Rng) -> Slot {
     }
 }
 
-/// A text of so many words, none above `highest`; now and then a 0 among them.
+/// How often a word of a text at random is a 0: once in so many words, or never.
+pub const STOPS: [Option<usize>; 6] = [Some(2), Some(5), Some(12), Some(20), Some(100), None];
+
+/// A text of so many words, none above `highest`; many, few or none of them are 0.
 pub fn any_text(rng: &mut Rng, length: usize, highest: u16) -> Vec<u16> {
+    let stops = rng.pick(&STOPS);
+    text_with_stops(rng, length, highest, stops)
+}
+
+/// A text of so many words, none above `highest`, as often a 0 as stated.
+pub fn text_with_stops(rng: &mut Rng, length: usize, highest: u16, stops: Option<usize>) -> Vec<u16> {
     let word = |rng: &mut Rng| {
-        if rng.once_in(12) {
+        if stops.is_some_and(|words| rng.once_in(words)) {
             0
         } else {
             rng.word(1, highest)

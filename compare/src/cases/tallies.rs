@@ -19,8 +19,9 @@ fn product(times: [usize; 16]) -> Vec<u16> {
     (0..16).flat_map(repeated).collect()
 }
 
-/// The text with so many parts, part i having 15 · 16^i occurrences of `sixteen_words`; together 16^parts − 1.
-pub fn one_below_power(parts: usize) -> Vec<u16> {
+/// The text with so many parts, part i having 15 · 16^i occurrences of `sixteen_words`; together 16^parts − 1. So many
+/// zeros close each part.
+pub fn one_below_power(parts: usize, zeros: usize) -> Vec<u16> {
     let mut text = Vec::new();
     for part in 0..parts {
         let times = |at: usize| match at {
@@ -29,19 +30,26 @@ pub fn one_below_power(parts: usize) -> Vec<u16> {
             _ => 1,
         };
         text.extend(product(std::array::from_fn(times)));
-        text.extend([0; 64]);
+        text.extend(vec![0; zeros]);
     }
     text
 }
 
 /// The same text with one occurrence more.
-pub fn power(parts: usize) -> Vec<u16> {
-    [one_below_power(parts), product([1; 16])].concat()
+pub fn power(parts: usize, zeros: usize) -> Vec<u16> {
+    [one_below_power(parts, zeros), product([1; 16])].concat()
 }
 
-/// Slots of the word 7 with gaps 0 to 63, and the first number of sevens whose tally is over 64 bits.
-pub fn thresholds() -> Vec<(Pattern, usize)> {
-    let first_over = [(11, 309), (12, 222), (13, 179), (14, 151), (15, 131), (16, 117)];
-    let patterns = first_over.map(|(slots, words)| (pattern(ANY_SPAN, &sevens(slots, 0, 63)), words));
+/// So many sentences of 16^15 occurrences of `sixteen_words` each, every one closed by a single 0.
+pub fn equal_sentences(sentences: usize) -> Vec<u16> {
+    let times = |at: usize| if at == 0 { 1 } else { 16 };
+    [product(std::array::from_fn(times)), vec![0]].concat().repeat(sentences)
+}
+
+/// Slots of the word 7 with gaps 0 to 63, the first number of sevens whose tally is over 64 bits, and the first number
+/// whose tally together with that of a sentence one seven below the former is.
+pub fn thresholds() -> Vec<(Pattern, usize, usize)> {
+    let first_over = [(11, 309, 183), (12, 222, 172), (13, 179, 137), (14, 151, 120), (15, 131, 112), (16, 117, 99)];
+    let patterns = first_over.map(|(slots, words, others)| (pattern(ANY_SPAN, &sevens(slots, 0, 63)), words, others));
     patterns.to_vec()
 }

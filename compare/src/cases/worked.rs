@@ -1,11 +1,12 @@
-//! The scope's nine texts, with the rows it names for them.
+//! The scope's nine texts, with the rows it names for them, and texts with sentence ends, with rows found by hand.
 
 use super::{Written, ANY_SPAN};
 
 /// A list of rows.
 pub type Rows = &'static [&'static [u16]];
 
-/// A text and a pattern, with what the scope says of them; `None` where it does not say.
+/// A text and a pattern, with what the scope says of them or Job 1 of document 02 means for them; `None` where the
+/// scope does not say.
 pub struct Worked {
     pub text: &'static [u16],
     pub slots: &'static [Written<'static>],
@@ -125,6 +126,112 @@ pub const TEXTS: [Worked; 9] = [
     },
 ];
 
+/// A sentence end.
+const STOP: u16 = 0;
+
+/// The two words of a phrase.
+const NEITHER: u16 = 1;
+const NOR: u16 = 2;
+
+/// neither[0,6]nor.
+const NEITHER_NOR: &[Written] = &[(0, 0, &[NEITHER]), (0, 6, &[NOR])];
+
+/// a[0,9]b.
+const AB: &[Written] = &[(0, 0, &[A]), (0, 9, &[B])];
+
+/// A text with sentence ends: all its rows, its front and its back list, and rows that are none.
+const fn cut(
+    text: &'static [u16],
+    slots: &'static [Written<'static>],
+    all: Rows,
+    [front, back]: [Rows; 2],
+    no_occurrences: Rows,
+) -> Worked {
+    let (all, count) = (Some(all), front.len());
+    Worked { text, slots, span: ANY_SPAN, count, all, front: Some(front), back: Some(back), no_occurrences }
+}
+
+/// Texts with sentence ends.
+pub const CUT_TEXTS: [Worked; 19] = [
+    // "neither" at the end of a sentence, "nor" in the next.
+    cut(&[X, NEITHER, STOP, NOR, X], NEITHER_NOR, &[], [&[], &[]], &[&[2, 4]]),
+    // The phrase in each of two sentences, and "nor" in a third.
+    cut(
+        &[NEITHER, X, NOR, STOP, NEITHER, NOR, STOP, NOR],
+        NEITHER_NOR,
+        &[&[1, 3], &[5, 6]],
+        [&[&[1, 3], &[5, 6]], &[&[1, 3], &[5, 6]]],
+        &[&[1, 6], &[1, 8], &[5, 8]],
+    ),
+    // Right after the first place, right before the last, and both at once.
+    cut(&[A, STOP, X, B], AB, &[], [&[], &[]], &[&[1, 4]]),
+    cut(&[A, X, STOP, B], AB, &[], [&[], &[]], &[&[1, 4]]),
+    cut(&[A, STOP, B], AB, &[], [&[], &[]], &[&[1, 3]]),
+    // Halfway.
+    cut(&[A, X, STOP, X, B], AB, &[], [&[], &[]], &[&[1, 5]]),
+    // Just outside the row: before it, after it, and on both sides.
+    cut(&[STOP, A, X, B], AB, &[&[2, 4]], [&[&[2, 4]], &[&[2, 4]]], &[&[1, 4]]),
+    cut(&[A, X, B, STOP], AB, &[&[1, 3]], [&[&[1, 3]], &[&[1, 3]]], &[&[1, 4]]),
+    cut(&[STOP, A, B, STOP], AB, &[&[2, 3]], [&[&[2, 3]], &[&[2, 3]]], &[&[1, 3], &[2, 4], &[1, 4]]),
+    // Several, also next to each other.
+    cut(
+        &[A, STOP, STOP, B, STOP, A, B, B, STOP, B],
+        AB,
+        &[&[6, 7], &[6, 8]],
+        [&[&[6, 7]], &[&[6, 8]]],
+        &[&[1, 4], &[1, 7], &[1, 8], &[1, 10], &[6, 10]],
+    ),
+    // One slot.
+    cut(
+        &[STOP, A, STOP, STOP, A, A, STOP],
+        &[(0, 0, &[A])],
+        &[&[2], &[5], &[6]],
+        [&[&[2], &[5], &[6]], &[&[2], &[5], &[6]]],
+        &[&[1], &[3], &[4], &[7]],
+    ),
+    // In the first gap alone, in the second alone, in none.
+    cut(
+        &[A, STOP, B, C, A, B, STOP, C, A, B, C],
+        &[(0, 0, &[A]), (0, 2, &[B]), (0, 2, &[C])],
+        &[&[9, 10, 11]],
+        [&[&[9, 10, 11]], &[&[9, 10, 11]]],
+        &[&[1, 3, 4], &[5, 6, 8]],
+    ),
+    // A start before the sentence must not take the place from the start within it.
+    cut(
+        &[A, STOP, A, B, B, STOP, B],
+        AB,
+        &[&[3, 4], &[3, 5]],
+        [&[&[3, 4]], &[&[3, 5]]],
+        &[&[1, 4], &[1, 5], &[1, 7], &[3, 7]],
+    ),
+    // The same word at both slots.
+    cut(
+        &[G, G, STOP, G, G, G],
+        &[(0, 0, &[G]), (0, 3, &[G])],
+        &[&[1, 2], &[4, 5], &[4, 6], &[5, 6]],
+        [&[&[1, 2], &[4, 5], &[5, 6]], &[&[1, 2], &[4, 5], &[5, 6]]],
+        &[&[1, 4], &[1, 5], &[2, 4], &[2, 5], &[2, 6]],
+    ),
+    // A span that only a row across the sentence end has, and one that only a row within a sentence has.
+    Worked { span: (4, 4), ..cut(&[A, B, STOP, B], AB, &[], [&[], &[]], &[&[1, 2], &[1, 4]]) },
+    Worked {
+        span: (3, 20_000),
+        ..cut(&[A, X, B, STOP, A, B], AB, &[&[1, 3]], [&[&[1, 3]], &[&[1, 3]]], &[&[1, 6], &[5, 6]])
+    },
+    // aggcaaga and acctctgtt of the nine texts, with a sentence end instead of c and of g.
+    cut(&[A, G, G, STOP, A, A, G, A], AGA, &[&[5, 7, 8], &[6, 7, 8]], [&[&[5, 7, 8]], &[&[6, 7, 8]]], &[&[1, 3, 5]]),
+    cut(
+        &[A, C, C, T, C, T, STOP, T, T],
+        &[(0, 0, &[A]), (0, 3, &[C]), (1, 3, &[T])],
+        &[&[1, 2, 4], &[1, 2, 6], &[1, 3, 6]],
+        [&[&[1, 2, 4]], &[&[1, 3, 6]]],
+        &[&[1, 5, 8], &[1, 5, 9]],
+    ),
+    // Nothing but sentence ends.
+    cut(&[STOP, STOP, STOP], AGA, &[], [&[], &[]], &[&[1, 2, 3], &[2, 2, 2]]),
+];
+
 /// The program's example: its input.
 pub const EXAMPLE_INPUT: &[u8] = b"least most
 1 20000
@@ -152,4 +259,40 @@ row slot front back
 2 1 2 2
 2 2 4 4
 2 3 5 6
+";
+
+/// The program's example with other words and sentence ends: its input.
+pub const CUT_INPUT: &[u8] = b"least most
+1 20000
+low high words
+0 0 7
+0 1 1
+0 1 1
+
+word
+7
+7
+1
+1
+0
+7
+1
+0
+1
+7
+1
+1
+1
+";
+
+/// The program's example with other words and sentence ends: its output.
+pub const CUT_OUTPUT: &[u8] = b"count tally
+2 5
+row slot front back
+1 1 1 2
+1 2 3 3
+1 3 4 4
+2 1 10 10
+2 2 11 12
+2 3 12 13
 ";

@@ -13,7 +13,7 @@ const ROOM: usize = 40;
 /// Compares damaged files.
 pub fn run(run: &mut Run) {
     let pattern = pattern((2, 20_000), &[(0, 0, &[7, 65_535]), (0, 10, &[1, 10]), (1, 3, &[2])]);
-    let text = text_file(&[7, 65_535, 10, 0, 2, 1, 100, 2, 2]);
+    let text = text_file(&[7, 65_535, 10, 100, 2, 0, 7, 1, 0, 2, 2]);
     for (at, slot) in SLOT_ORDERS.iter().enumerate() {
         let file = pattern_file(&pattern, SPAN_ORDERS[at % 2], *slot);
         at_every_byte(run, &file, &text);

@@ -3,6 +3,7 @@
 use compare::brute::Brute;
 use compare::cases::inputs::sevens;
 use compare::cases::random::{any_cursors, any_pattern, any_text, break_pattern, Kind};
+use compare::cases::sentences::cut_every;
 use compare::cases::{pattern, ANY_SPAN};
 use compare::layout::{Cursors, Pattern};
 use compare::rng::Rng;
@@ -24,7 +25,9 @@ pub fn run(run: &mut Run) {
         calls(run, &mut rng, cursors, 6);
     }
     for client in 1..=4 {
-        until_refused(run, client);
+        until_refused(run, client, &pattern(ANY_SPAN, &sevens(1, 0, 0)), &[7; 600]);
+        // Sentences of two words: each is one occurrence, and the next begins past a 0.
+        until_refused(run, client, &pattern(ANY_SPAN, &sevens(2, 0, 2)), &cut_every(3, vec![7; 1_800]));
     }
 }
 
@@ -55,17 +58,16 @@ fn any_request(rng: &mut Rng) -> (Pattern, Vec<u16>) {
     (pattern, any_text(rng, words, 2))
 }
 
-/// Compares calls for one client in a text of 600 words until 500 are served, then two more, and a rewind between them.
-fn until_refused(run: &mut Run, client: usize) {
-    let single = pattern(ANY_SPAN, &sevens(1, 0, 0));
-    let text = vec![7; 600];
+/// Compares calls for one client in a text with 600 occurrences until 500 are served, then two more, and a rewind
+/// between them.
+fn until_refused(run: &mut Run, client: usize, pattern: &Pattern, text: &[u16]) {
     let mut cursors = Cursors::default();
     for _ in 0..501 {
-        let mut both = Both::new(run, Brute::enumerated(&single, &text));
+        let mut both = Both::new(run, Brute::enumerated(pattern, text));
         cursors = both.next(&cursors, client);
     }
     assert_eq!(cursors.served, 500);
     cursors = rewind(run, &cursors, client);
     assert_eq!((cursors.served, cursors.marks[client - 1].places), (500, [0; 16]));
-    Both::new(run, Brute::enumerated(&single, &text)).next(&cursors, client);
+    Both::new(run, Brute::enumerated(pattern, text)).next(&cursors, client);
 }

@@ -2,6 +2,7 @@
 
 use compare::brute::{largest_sets, largest_size, overlap, sorted_by_slot, Brute, Enumerated, Row};
 use compare::cases::lines::small_files;
+use compare::cases::sentences::without_stops;
 use compare::cases::small::{patterns, texts, tuples};
 use compare::cases::ANY_SPAN;
 use compare::layout::Pattern;
@@ -17,11 +18,11 @@ const GAPS: [(u16, u16); 6] = [(0, 0), (0, 1), (1, 1), (0, 2), (1, 2), (2, 2)];
 /// Span limits that bind in small texts, and some that do not.
 const SPANS: [(u16, u16); 5] = [ANY_SPAN, (3, 4), (1, 3), (4, 4), (2, 20_000)];
 
-/// The most rows tried for one pattern and text, besides its occurrences.
-const ROWS: usize = 512;
+/// The most rows tried one by one for a pattern and a text, and how many of more rows are tried.
+const ROWS: (usize, usize) = (512, 128);
 
-/// The most marks tried for one pattern and text, besides its occurrences.
-const MARKS: usize = 8;
+/// The same for marks.
+const MARKS: (usize, usize) = (8, 8);
 
 /// The most largest sets looked at for one pattern and text.
 const SETS: usize = 300;
@@ -33,13 +34,16 @@ pub fn run(run: &mut Run) {
     let apart: [&[u16]; 3] = [&[1], &[2], &[3, 1]];
     let wide = [(0, 1), (1, 2), (0, 2)];
     let families = [
-        (patterns(1, &sets, &GAPS, &SPANS), texts(&[1, 2], 6)),
+        (patterns(1, &sets, &GAPS, &SPANS), texts(&[0, 1, 2], 5)),
         (patterns(2, &sets, &GAPS, &SPANS), texts(&[1, 2], 6)),
-        (patterns(2, &sets, &wide, &SPANS[..3]), texts(&[0, 1, 2], 4)),
+        (patterns(2, &sets, &wide[1..], &SPANS[..2]), texts(&[0, 1, 2], 5)),
+        (patterns(2, &sets[2..], &[(0, 4), (1, 5)], &SPANS), texts(&[0, 1], 8)),
         (patterns(3, &sets, &wide, &SPANS[..2]), texts(&[1, 2], 5)),
         (patterns(3, &apart, &[(0, 2)], &SPANS[..1]), texts(&[1, 2, 3], 5)),
-        (patterns(3, &sets[2..], &wide, &SPANS), texts(&[0, 1], 6)),
+        (patterns(3, &apart[..2], &wide[2..], &SPANS[..2]), texts(&[0, 1, 2], 5)),
+        (patterns(3, &sets[2..], &wide, &SPANS), texts(&[0, 1], 7)),
         (patterns(4, &sets[..1], &wide, &SPANS[..2]), texts(&[1, 2], 6)),
+        (patterns(4, &sets[..1], &wide[2..], &SPANS[..2]), texts(&[0, 1, 2], 6)),
     ];
     for (patterns, texts) in families {
         for pattern in &patterns {
@@ -76,20 +80,21 @@ fn compare(run: &mut Run, rng: &mut Rng, pattern: &Pattern, text: &[u16]) {
     }
     both.searches(&vec![0; pattern.count]);
     both.searches(&vec![65_535; pattern.count]);
-    for occurrence in &occurrences {
-        both.row(occurrence);
-        both.searches(occurrence);
+    let across = Enumerated::new(pattern, &without_stops(pattern, text));
+    for row in across.rows() {
+        both.row(row);
+        both.searches(row);
     }
     largest(&both, &occurrences);
 }
 
-/// All rows of so many entries over these choices, or `most` of them if there are more.
-fn some(rng: &mut Rng, choices: &[u16], length: usize, most: usize) -> Vec<Row> {
+/// All rows of so many entries over these choices, or if there are more than `most`, `some` of them.
+fn some(rng: &mut Rng, choices: &[u16], length: usize, (most, sampled): (usize, usize)) -> Vec<Row> {
     if choices.len().pow(length as u32) <= most {
         return tuples(choices, length);
     }
     let row = |rng: &mut Rng| (0..length).map(|_| rng.pick(choices)).collect();
-    (0..most).map(|_| row(rng)).collect()
+    (0..sampled).map(|_| row(rng)).collect()
 }
 
 /// Asserts that the lists are largest nonoverlapping sets, and that every such set, sorted, lies between them.

@@ -3,7 +3,7 @@
 use compare::brute::pattern_of;
 use compare::cases::files::{damage, input, pattern_file, plain_pattern_file, text_file, SLOT_ORDERS, SPAN_ORDERS};
 use compare::cases::inputs::inputs;
-use compare::cases::random::{any_pattern, any_text, break_pattern, Kind};
+use compare::cases::random::{any_pattern, any_text, break_pattern, text_with_stops, Kind, STOPS};
 use compare::cases::worked::EXAMPLE_INPUT;
 use compare::rng::Rng;
 
@@ -23,6 +23,7 @@ pub fn run(run: &mut Run) {
     slots_at_limit(run);
     words_at_limit(run);
     failures_of_both(run);
+    cut_texts(run);
     pairs_at_random(run);
     for input in inputs() {
         run.input();
@@ -166,6 +167,20 @@ fn failures_of_both(run: &mut Run) {
             pair(run, pattern, text);
             report(run, &input(pattern, text));
         }
+    }
+}
+
+/// Compares texts of few different words, many, few or none of them sentence ends.
+fn cut_texts(run: &mut Run) {
+    let mut rng = Rng::new(46);
+    let kind = Kind { slots: (1, 4), highest_word: 2, most_words: 2, widest_gap: 4 };
+    for round in 0..1_000 {
+        let file = plain_pattern_file(&any_pattern(&mut rng, &kind));
+        let words = rng.within(0, 60);
+        let text = text_file(&text_with_stops(&mut rng, words, 2, STOPS[round % STOPS.len()]));
+        run.input();
+        pair(run, &file, &text);
+        report(run, &input(&file, &text));
     }
 }
 

@@ -4,7 +4,8 @@ use compare::brute::{self, Brute};
 use compare::cases::inputs::sevens;
 use compare::cases::lines::one_long_line;
 use compare::cases::random::add_garbage;
-use compare::cases::tallies::{one_below_power, power, sixteen_words, thresholds};
+use compare::cases::sentences::{cut_at, cut_every, joined};
+use compare::cases::tallies::{equal_sentences, one_below_power, power, sixteen_words, thresholds};
 use compare::cases::{pattern, ANY_SPAN};
 use compare::layout::{Cursors, Pattern};
 use compare::rng::Rng;
@@ -152,22 +153,48 @@ fn row_lengths(run: &mut Run) {
 
 /// Compares tallies just below 2^64, at it, and far past it.
 fn tallies(run: &mut Run) {
-    for parts in [1, 2, 8, 15, 16] {
-        for text in [one_below_power(parts), power(parts)] {
-            let pattern = sixteen_words();
-            let mut both = Both::new(run, Brute::windowed(&pattern, &text));
-            both.numbers();
-            both.all();
+    for zeros in [1, 64] {
+        for parts in [1, 2, 8, 15, 16] {
+            counted(run, &sixteen_words(), &one_below_power(parts, zeros));
+            counted(run, &sixteen_words(), &power(parts, zeros));
         }
     }
-    for (pattern, words) in thresholds() {
+    counted(run, &sixteen_words(), &equal_sentences(16));
+    for rest in [vec![], one_below_power(15, 1), power(15, 1)] {
+        counted(run, &sixteen_words(), &[equal_sentences(15), rest].concat());
+    }
+    for (pattern, words, others) in thresholds() {
         for words in [words - 2, words - 1, words, words + 1, 1_000] {
             let text = vec![7; words];
-            let mut both = Both::new(run, Brute::windowed(&pattern, &text));
-            both.numbers();
-            both.lists();
-            both.all();
+            counted(run, &pattern, &text);
+            Both::new(run, Brute::windowed(&pattern, &text)).lists();
         }
+        cut_sevens(run, &pattern, words, others);
+    }
+}
+
+/// Compares the count, the tally and the list of all occurrences.
+fn counted(run: &mut Run, pattern: &Pattern, text: &[u16]) {
+    let mut both = Both::new(run, Brute::windowed(pattern, text));
+    both.numbers();
+    both.all();
+}
+
+/// Compares sevens that a sentence end keeps below 2^64 or not: so many that they pass it with a 0 at some place, one
+/// fewer beside as many others as pass it or just do not, and sentences of the same lengths.
+fn cut_sevens(run: &mut Run, pattern: &Pattern, words: usize, others: usize) {
+    let mut texts: Vec<Vec<u16>> =
+        (1..=words).step_by(words / 8).map(|place| cut_at(&[place], vec![7; words])).collect();
+    texts.extend([2, words - 1, words].map(|place| cut_at(&[place], vec![7; words])));
+    for others in [others - 1, others].map(|others| vec![7; others]) {
+        texts.push(joined(&vec![7; words - 1], &others));
+        texts.push(joined(&others, &vec![7; words - 1]));
+    }
+    texts.extend([pattern.count, pattern.count + 1, words, words + 1].map(|every| cut_every(every, vec![7; 1_000])));
+    for text in &texts {
+        let mut both = Both::new(run, Brute::windowed(pattern, text));
+        both.tally();
+        both.all();
     }
 }
 

@@ -2,7 +2,8 @@
 
 use compare::brute::{Brute, Row};
 use compare::cases::inputs::sevens;
-use compare::cases::random::{any_marks, any_pattern, any_text, Kind};
+use compare::cases::random::{any_marks, any_pattern, text_with_stops, Kind};
+use compare::cases::sentences::{cut_at, cut_every, sentences};
 use compare::cases::{pattern, ANY_SPAN};
 use compare::ffi;
 use compare::layout::{Answer, Cursors, Pattern};
@@ -26,16 +27,20 @@ const KINDS: [Kind; 3] = [
     Kind { slots: (10, 16), highest_word: 12, most_words: 2, widest_gap: 63 },
 ];
 
+/// What the patterns are like that occur in short sentences of two words.
+const NARROW: Kind = Kind { slots: (2, 4), highest_word: 2, most_words: 2, widest_gap: 7 };
+
 /// Compares long texts.
 pub fn run(run: &mut Run) {
     let mut rng = Rng::new(77);
     let nine = pattern(ANY_SPAN, &sevens(9, 0, 63));
     Both::new(run, Brute::windowed(&nine, &[7; WORDS])).tally();
-    for round in 0..12 {
-        let kind = &KINDS[round % KINDS.len()];
-        let pattern = any_pattern(&mut rng, kind);
-        let text = any_text(&mut rng, WORDS, kind.highest_word);
-        compare(run, &mut rng, &pattern, &text);
+    for stops in [Some(20), Some(2), Some(100), None] {
+        for kind in &KINDS {
+            let pattern = any_pattern(&mut rng, kind);
+            let text = text_with_stops(&mut rng, WORDS, kind.highest_word, stops);
+            compare(run, &mut rng, &pattern, &text);
+        }
     }
     for (slots, high, words) in [(1, 0, WORDS), (2, 63, WORDS), (3, 9, WORDS), (16, 63, 400)] {
         let pattern = pattern(ANY_SPAN, &sevens(slots, 0, high));
@@ -45,9 +50,23 @@ pub fn run(run: &mut Run) {
         let pattern = pattern(span, &sevens(16, 0, 63));
         compare(run, &mut rng, &pattern, &[7; 1_000]);
     }
-    for (slots, low, high) in [(1, 0, 0), (2, 0, 63), (3, 5, 9), (16, 0, 0), (16, 0, 63), (16, 63, 63)] {
-        same_words(run, slots, low, high);
+    same_words(run, &[7; WORDS]);
+    for (at, text) in cut(&[7; WORDS]).iter().enumerate() {
+        same_words(run, text);
+        let (slots, high) = [(2, 63), (3, 9)][at % 2];
+        compare(run, &mut rng, &pattern(ANY_SPAN, &sevens(slots, 0, high)), text);
     }
+    for text in cut(&text_with_stops(&mut rng, WORDS, 2, None)) {
+        let pattern = any_pattern(&mut rng, &NARROW);
+        compare(run, &mut rng, &pattern, &text);
+    }
+}
+
+/// The text with one sentence end in the middle, with one at each end, and with some at regular places, many and few.
+fn cut(text: &[u16]) -> Vec<Vec<u16>> {
+    let mut texts = vec![cut_at(&[WORDS / 2], text.to_vec()), cut_at(&[1, WORDS], text.to_vec())];
+    texts.extend([2, 3, 20, 64, 962].map(|every| cut_every(every, text.to_vec())));
+    texts
 }
 
 /// Compares every call on a long text, from some marks and some rows of the lists.
@@ -71,21 +90,30 @@ fn picked<E: std::fmt::Debug>(rng: &mut Rng, list: Result<&[Row], E>) -> Vec<Row
     (0..some).map(|_| list[rng.within(0, list.len() - 1)].clone()).collect()
 }
 
-/// Compares the lists of slots of sevens in a text of sevens: row k has its places low + 1 apart, from place k on.
-fn same_words(run: &mut Run, slots: usize, low: u16, high: u16) {
+/// Compares the lists of some patterns of sevens in sentences of sevens.
+fn same_words(run: &mut Run, text: &[u16]) {
+    for (slots, low, high) in [(1, 0, 0), (2, 0, 63), (3, 5, 9), (16, 0, 0), (16, 0, 63), (16, 63, 63)] {
+        same_word(run, text, slots, low, high);
+    }
+}
+
+/// Compares the lists of slots of sevens in sentences of sevens: a sentence's row k has its places low + 1 apart, from
+/// its place k on.
+fn same_word(run: &mut Run, text: &[u16], slots: usize, low: u16, high: u16) {
     let pattern = pattern(ANY_SPAN, &sevens(slots, low, high));
-    let text = [7; WORDS];
     let reach = (slots as u16 - 1) * (low + 1);
-    let count = WORDS as u16 - reach;
+    let firsts =
+        |(before, sentence): (u16, &[u16])| before + 1..=before + (sentence.len() as u16).saturating_sub(reach);
     let row = |first: u16| (0..slots as u16).map(move |slot| first + slot * (low + 1));
-    let rows: Row = (1..=count).flat_map(row).collect();
+    let rows: Row = sentences(text).into_iter().flat_map(firsts).flat_map(row).collect();
+    let count = rows.len() / slots;
     run.input();
     for (call, list) in [(Call::Leftmost, ffi::leftmost as ListCall), (Call::Rightmost, ffi::rightmost)] {
         let (mut lent, mut expected) = (Lent::places(rows.len() + 9), Lent::places(rows.len() + 9));
         expected.part()[..rows.len()].copy_from_slice(&rows);
-        let library = list(&pattern, &text, lent.part());
-        let answer = Answer { number: 0, place: 0, value: count.into() };
-        let case = || format!("{call} of 20,000 sevens: {slots} sevens, gaps {low} to {high}");
+        let library = list(&pattern, text, lent.part());
+        let answer = Answer { number: 0, place: 0, value: count as u64 };
+        let case = || format!("{call}: {slots} sevens, gaps {low} to {high}\ntext: {text:?}");
         run.agree(&library, &answer, case);
         run.agree(&lent, &expected, case);
         run.call(call, library.number);

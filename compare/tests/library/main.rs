@@ -13,6 +13,7 @@ mod long;
 mod order;
 mod random;
 mod run;
+mod sentences;
 mod spellings;
 mod worked;
 
@@ -26,9 +27,10 @@ use run::Run;
 type Group = (&'static str, fn(&mut Run));
 
 /// All groups.
-const GROUPS: [Group; 10] = [
+const GROUPS: [Group; 11] = [
     ("worked", worked::run),
     ("exhaustive", exhaustive::run),
+    ("sentences", sentences::run),
     ("random", random::run),
     ("limits", limits::run),
     ("order", order::run),

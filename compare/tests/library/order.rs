@@ -21,7 +21,7 @@ const SERVED: u32 = 128;
 
 /// Compares every set of failures, with those of slots at every slot.
 pub fn run(run: &mut Run) {
-    let (short, long) = ([7; 6], [7; 20_001]);
+    let (short, long) = ([7, 7, 7, 7, 0, 7, 7, 7], [7; 20_001]);
     for failures in 0..2 * SERVED {
         for at in 0..27 {
             let pattern = broken(failures, [at / 9, at / 3 % 3, at % 3]);

@@ -1,8 +1,9 @@
 //! Patterns and texts at random, within the limits and past them, and lines at random.
 
-use compare::brute::{Brute, Searcher};
+use compare::brute::{Brute, Row, Searcher};
 use compare::cases::lines::any_lines;
 use compare::cases::random::{add_garbage, any_cursors, any_marks, any_pattern, any_text, break_pattern, Kind};
+use compare::cases::sentences::without_stops;
 use compare::layout::Pattern;
 use compare::rng::Rng;
 
@@ -79,7 +80,7 @@ fn compare_by(mut both: Both<impl Searcher>, rng: &mut Rng) {
         both.row(&marks);
     }
     let rows = both.brute.front().map_or(Vec::new(), <[_]>::to_vec);
-    for row in rows.iter().take(ROWS) {
+    for row in rows.iter().take(ROWS).chain(&across_stops(&both)) {
         both.row(row);
         both.searches(row);
     }
@@ -88,6 +89,17 @@ fn compare_by(mut both: Both<impl Searcher>, rng: &mut Rng) {
     let client = rng.within(0, 5);
     let cursors = any_cursors(rng, length);
     both.every_call(&marks, &cursors, client);
+}
+
+/// Some rows that are occurrences but for sentence ends, if the text has any of those.
+fn across_stops(both: &Both<impl Searcher>) -> Vec<Row> {
+    let (pattern, text) = (both.brute.pattern, both.brute.text);
+    if both.brute.searcher().is_err() || !text.contains(&0) {
+        return Vec::new();
+    }
+    let whole = without_stops(pattern, text);
+    let rows = Brute::windowed(pattern, &whole).front().expect("the pattern is accepted").to_vec();
+    rows.into_iter().take(ROWS).collect()
 }
 
 /// Compares adding a slot to a pattern of any state, and a new pattern with any span limits.

@@ -1,19 +1,20 @@
-//! The scope's nine texts and the program's example, as the scope states them and as the brute force finds them.
+//! The scope's nine texts, the program's example, and the same with sentence ends, as they are stated and as the
+//! brute force finds them.
 
 use compare::brute::Brute;
 use compare::cases::files::{plain_pattern_file, text_file};
 use compare::cases::pattern;
-use compare::cases::worked::{Rows, Worked, EXAMPLE_INPUT, EXAMPLE_OUTPUT, TEXTS};
+use compare::cases::worked::{Rows, Worked, CUT_INPUT, CUT_OUTPUT, CUT_TEXTS, EXAMPLE_INPUT, EXAMPLE_OUTPUT, TEXTS};
 use compare::ffi;
-use compare::layout::{Answer, Cursors, LineEnds, Pattern};
+use compare::layout::{Answer, Cursors, Found, LineEnds, Pattern};
 
 use crate::both::Both;
 use crate::file_calls;
 use crate::run::Run;
 
-/// Compares the nine texts and the example.
+/// Compares the nine texts, those with sentence ends, and the examples.
 pub fn run(run: &mut Run) {
-    for case in &TEXTS {
+    for case in TEXTS.iter().chain(&CUT_TEXTS) {
         let pattern = pattern(case.span, case.slots);
         stated(case, &pattern);
         let mut both = Both::new(run, Brute::enumerated(&pattern, case.text));
@@ -26,34 +27,76 @@ pub fn run(run: &mut Run) {
         file_calls::pair(run, &file, &text);
         file_calls::lines(run, &text);
     }
-    let mut out = [0; 200];
-    let written = ffi::report(EXAMPLE_INPUT, &mut out);
-    assert_eq!(&out[..written], EXAMPLE_OUTPUT);
-    run.input();
-    file_calls::report(run, EXAMPLE_INPUT);
-    file_calls::lines(run, EXAMPLE_INPUT);
-    assert_lines(EXAMPLE_INPUT);
-    assert_lines(EXAMPLE_OUTPUT);
+    for (input, output) in [(EXAMPLE_INPUT, EXAMPLE_OUTPUT), (CUT_INPUT, CUT_OUTPUT)] {
+        let mut out = [0; 200];
+        let written = ffi::report(input, &mut out);
+        assert_eq!(&out[..written], output);
+        run.input();
+        file_calls::report(run, input);
+        file_calls::lines(run, input);
+        assert_lines(input);
+        assert_lines(output);
+    }
 }
 
-/// Asserts what the scope states of a text.
+/// Asserts what is stated of a text.
 fn stated(case: &Worked, pattern: &Pattern) {
     assert_eq!(ffi::support(pattern, case.text).value, case.count as u64);
+    if let Some(all) = case.all {
+        assert_eq!(ffi::tally(pattern, case.text).value, all.len() as u64);
+    }
+    for row in case.all.into_iter().flatten() {
+        let length = usize::from(row[row.len() - 1] - row[0] + 1);
+        assert_eq!(ffi::is_occurrence(pattern, case.text, row).value, 1);
+        assert_eq!(ffi::excerpt(pattern, case.text, row, 0).length, length);
+    }
     assert_rows(case.all, |list| ffi::all(pattern, case.text, list));
     assert_rows(case.front, |list| ffi::leftmost(pattern, case.text, list));
     assert_rows(case.back, |list| ffi::rightmost(pattern, case.text, list));
     for row in case.no_occurrences {
         assert_eq!(ffi::is_occurrence(pattern, case.text, row).value, 0);
+        assert_eq!(ffi::excerpt(pattern, case.text, row, 0).length, 0);
+    }
+    stated_searches(case, pattern);
+}
+
+/// Asserts that the searches find the rows of the lists that are stated, one after another, and then none; so for a
+/// client.
+fn stated_searches(case: &Worked, pattern: &Pattern) {
+    let slots = case.slots.len();
+    if let Some(front) = case.front {
+        let (mut marks, mut cursors) = (vec![0; slots], Cursors::default());
+        for row in front.iter().map(Some).chain([None]) {
+            assert_found(row, &ffi::first_after(pattern, case.text, &marks));
+            let served = ffi::next(&cursors, 1, pattern, case.text);
+            assert_eq!(served.places, ffi::first_after(pattern, case.text, &marks).places);
+            (marks, cursors) = (row.map_or(marks, |row| row.to_vec()), served.cursors);
+        }
+        assert_eq!(cursors.served, front.len());
+    }
+    let mut marks = vec![65_535; slots];
+    for row in case.back.into_iter().flat_map(|back| back.iter().rev().map(Some).chain([None])) {
+        assert_found(row, &ffi::last_before(pattern, case.text, &marks));
+        marks = row.map_or(marks, |row| row.to_vec());
     }
 }
 
-/// Asserts that the files of a text are read as its pattern and its words, and that the pattern passes its tests.
+/// Asserts that a search has found this row, or none.
+fn assert_found(row: Option<&&[u16]>, found: &Found) {
+    let mut expected = Found { number: 0, place: 0, found: u64::from(row.is_some()), places: [0; 16] };
+    row.into_iter().for_each(|row| expected.places[..row.len()].copy_from_slice(row));
+    assert_eq!(*found, expected);
+}
+
+/// Asserts that the files of a text are read as its pattern and its words, and counted, and that the pattern passes its
+/// tests.
 fn stated_in_files(case: &Worked, pattern: &Pattern, file: &[u8], text: &[u8]) {
     let mut words = vec![0; case.text.len()];
     let read = ffi::read_input(file, text, &mut words);
     assert_eq!((read.number, read.place, read.words), (0, 0, case.text.len() as u64));
     assert_eq!((read.pattern, &words[..]), (*pattern, case.text));
     assert_eq!(ffi::check_pattern(pattern), Answer { number: 0, place: 0, value: 0 });
+    assert_eq!(ffi::count(file, text), case.count as u32);
 }
 
 /// Asserts that the lines of bytes that end with a closed line are found one after another.
@@ -69,7 +112,7 @@ fn assert_lines(bytes: &[u8]) {
     assert_eq!(ffi::line(bytes, begun), LineEnds { end: begun, next: begun });
 }
 
-/// Asserts that a list, if the scope names it, has these rows.
+/// Asserts that a list, if it is named, has these rows.
 fn assert_rows(named: Option<Rows>, call: impl Fn(&mut [u16]) -> Answer) {
     if let Some(named) = named {
         let entries = named.concat();

@@ -1,6 +1,7 @@
 pub mod Carry
 pub mod Loops
 pub mod Fitting
+pub mod Closing
 pub mod Distances
 pub mod Counting
 pub mod Columns

@@ -1,4 +1,4 @@
--- All occurrences by the walk: the rows of a window are those with its first place, or all of them. Assumes nothing.
+-- All occurrences by the walk: the rows of a window are those with its first place, or those of a sentence. Assumes nothing.
 use Prim.Native.Nat.{ℕ, suc, _+_, _-_, _*_, _≤_, _<_, min}
 use native.Mathlib.Omega.{arith}
 use mathlib.Core.Path.{_≡_, refl, sym, ap, _∙_, fun-ext}
@@ -9,27 +9,26 @@ use Rattle.pattern.specs.declared.Pattern.{Pattern}
 use Rattle.pattern.specs.Patterns.{slotAt}
 use Rattle.basics.specs.Collections.{Every}
 use Rattle.matching.specs.Occurrence.{View}
-use Rattle.matching.specs.Occurrences.{occurrencesIn, places}
+use Rattle.matching.specs.Occurrences.{occurrencesIn, startingIn, places}
 use Rattle.basics.specs.Written.{written}
 use Rattle.basics.specs.Laws.Collections.{every-map}
 use Rattle.matching.specs.Laws.Enumeration.{occurrences-occur}
 use Rattle.basics.specs.Sums.{gather}
-use Rattle.matching.specs.Branches.{branches, ways}
-use Rattle.matching.specs.Laws.Branches.{length-branches, tree, forest, occurrences-forest}
-use Rattle.matching.specs.Spans.{width, limit, least}
-use Rattle.matching.specs.Laws.Cover.{covers-all, occurrences-each}
+use Rattle.matching.specs.Laws.Branches.{tree, forest}
+use Rattle.matching.specs.Spans.{width, horizon, limit, least}
+use Rattle.matching.specs.Laws.Cover.{occurrences-each, starting-each, count-each}
+use Rattle.matching.specs.Laws.Sentences.{horizon-past}
 use Rattle.counting.specs.declared.window.Window.{Window}
 use Rattle.counting.specs.Steps.Inputs.{Input}
 use Rattle.counting.specs.Laws.Inputs.{gaps}
-use Rattle.counting.specs.Laws.Runs.{run-one, run-skip, run-more, run-part, length-empty, put-append, put-written}
+use Rattle.counting.specs.Laws.Runs.{gather-same, run-split, run-one, length-empty, put-append, put-written}
 use Rattle.counting.specs.Steps.Fits.{Fitted}
 use Rattle.counting.specs.Steps.Plans.{Handed, unbound}
 use Rattle.counting.specs.Steps.Rows.{size, stopAt}
 use Rattle.counting.specs.Steps.Tables.{rowsOf, rowsAt, Tabled}
 use Rattle.counting.specs.Steps.Walks.{run, put, Leads, Walk, Walked}
-use Rattle.counting.proofs.Columns.{allOf, startAt, size-all, stop-all, stop-start, from-start, starts-none}
-use Rattle.counting.proofs.Distances.{unbound-spans}
-use Rattle.counting.proofs.Tabling.{gather-shift, rows-past, rows-last, rows-step, rows-child}
+use Rattle.counting.proofs.Columns.{sentenceAt, startAt, stop-sentence, stop-start, from-start, ways-off, off-fits, sentence-rows}
+use Rattle.counting.proofs.Tabling.{rows-last, rows-step, rows-child}
 
 -- ---- a window's table leads through its rows
 
@@ -81,60 +80,11 @@ map-same : (row : List ℕ) (R : List (List ℕ)) → map (λ s. take 0 row ++ s
 map-same row [] = refl
 map-same row (r ∷ R) = ap (λ (T : List (List ℕ)). r ∷ T) (map-same row R)
 
--- ---- one table of all places
-
-module _ {f : Pattern} {v : View} (ok : Input f v) (spans : unbound f (v .places) ≡ true) where
-  abbrev allRows : ℕ → ℕ → List (List ℕ)
-  allRows = rowsAt f v (allOf (v .places))
-
-  all-rows : run (allRows 0) 0 (v .places + 1) ≡ occurrencesIn f v
-  unfolding run forest tree rowsOf
-  all-rows =
-      let n = v .places in
-      let b = unbound-spans f n spans in
-      let st = stopAt f (allOf n) in
-      let k = f .count - 1 - 0 in
-      let e : st ≡ (λ j. n + 1) = fun-ext (stop-all f n) in
-      let z : k ≡ f .count - 1 = omega arith in
-      let d : n - 0 ≡ n = omega arith in
-      let all = occurrences-forest f v (λ p j. n + 1) (λ p. 0) (covers-all f v (ok .pattern .some) (b .0) (b .1)) in
-      run-skip (allRows 0) 0 n (n + 1) (omega arith) (omega arith) (λ q x y. rows-past f v (allOf n) k 0 q (rw (size-all f n) x))
-      ∙ ap (λ (c : ℕ). gather (allRows 0) (places 0 c)) d
-      ∙ sym (gather-shift n (branches f v st 0 k 0) 0 0 1 (omega arith))
-      ∙ ap (λ (s : ℕ → ℕ). gather (branches f v s 0 k 0) (places 1 n)) e
-      ∙ ap (λ (c : ℕ). gather (branches f v (λ j. n + 1) 0 c 0) (places 1 n)) z
-      ∙ sym all
-
-  module _ {low high N : List ℕ} (l : List ℕ) (leads : Leads (f .count) 0 low high N (size f (allOf (v .places))) allRows) (room : length (occurrencesIn f v) * f .count ≤ length l) where
-    pub all-walk : Walk (f .count) 0 low high N 0 0 (v .places) 0 (length l)
-    all-walk =
-        let some = ok .pattern .some in
-        let short = ok .short in
-        record {
-          n = size f (allOf (v .places));
-          rows = allRows;
-          leads = leads;
-          slot = omega arith;
-          start = omega arith;
-          order = omega arith;
-          near = omega arith;
-          room = length (occurrencesIn f v);
-          fits = rw all-rows (omega arith);
-          wide = room;
-        }
-
-    pub all-written : {row : List ℕ} {r : ℕ} {l′ : List ℕ} → Walked all-walk row l r l′ → l′ ≡ written (f .count) (occurrencesIn f v) l
-    unfolding all-walk
-    all-written {row} d =
-        d .list
-        ∙ ap (λ (R : List (List ℕ)). put (f .count) 0 R l) (map-same row (run (allRows 0) 0 (v .places + 1)) ∙ all-rows)
-        ∙ put-written (occurrencesIn f v) (f .count) l (every-long f v) room
-
--- ---- a table for each first place
+-- ---- the rows with a first place that was passed
 
 -- the occurrences with the first place x + 1
 unfoldable pub startRows : Pattern → View → ℕ → List (List ℕ)
-startRows f v x = tree f v (limit f v) (least f) (x + 1)
+startRows f v x = startingIn f v (x + 1)
 
 -- the rows with a first place before index i stand in the list
 pub record Listing (f : Pattern) (v : View) (l : List ℕ) (i rows : ℕ) (l′ : List ℕ) : Type 0 where
@@ -148,21 +98,16 @@ unfolding run gather places put
 listing-begin = record { long = refl; inside = omega arith; number = refl; list = refl }
 
 module _ {f : Pattern} {v : View} (ok : Input f v) where
-  start-length : (i : ℕ) → length (startRows f v i) ≡ ways f v (limit f v (i + 1)) (least f (i + 1)) (f .count - 1) 0 (i + 1)
-  unfolding startRows tree
-  start-length i = length-branches f v (limit f v (i + 1)) (least f (i + 1)) (f .count - 1) 0 (i + 1)
-
   each-rows : run (startRows f v) 0 (v .places) ≡ occurrencesIn f v
   unfolding run forest startRows
   each-rows =
-      let n = v .places in
-      let d : n - 0 ≡ n = omega arith in
-      let shifted : ℕ → List (List ℕ) = λ x. tree f v (limit f v) (least f) (0 + x + 1) in
-      let e : startRows f v ≡ shifted = fun-ext (λ x. let q : x + 1 ≡ 0 + x + 1 = omega arith in ap (tree f v (limit f v) (least f)) q) in
-      ap (λ (k : ℕ). gather (startRows f v) (places 0 k)) d
-      ∙ ap (λ (g : ℕ → List (List ℕ)). gather g (places 0 n)) e
-      ∙ sym (gather-shift n (tree f v (limit f v) (least f)) 0 0 1 (omega arith))
-      ∙ sym (occurrences-each f v (ok .pattern .some) (ok .pattern .least))
+      let some = ok .pattern .some in
+      let one = ok .pattern .least in
+      let d : v .places - 0 ≡ v .places = omega arith in
+      ap (λ (c : ℕ). gather (startRows f v) (places 0 c)) d
+      ∙ gather-same (v .places) (startRows f v) (tree f v (limit f v) (least f)) 0 1
+      (λ k h. let e : 0 + k + 1 ≡ 1 + k = omega arith in ap (startingIn f v) e ∙ starting-each f v some (1 + k) (omega arith) (omega arith) one)
+      ∙ sym (occurrences-each f v some one)
 
   module _ {l : List ℕ} {i rows : ℕ} {l′ : List ℕ} (s : Listing f v l i rows l′) where
     pub listing-done : v .places ≤ i → length (occurrencesIn f v) * f .count ≤ length l → l′ ≡ written (f .count) (occurrencesIn f v) l
@@ -172,59 +117,80 @@ module _ {f : Pattern} {v : View} (ok : Input f v) where
         s .list ∙ rw (e, each-rows) (put-written (occurrencesIn f v) (f .count) l (every-long f v) room)
 
     module _ (inside : i < v .places) where
-      listing-past : {r : ℕ} {l″ : List ℕ} → length l″ ≡ length l′ → r ≡ rows + length (startRows f v i) → l″ ≡ put (f .count) rows (startRows f v i) l′ → Listing f v l (i + 1) r l″
-      listing-past {r} {l″} long er el =
-          let u : run (startRows f v) 0 (i + 1) ≡ run (startRows f v) 0 i ++ startRows f v i = run-more (startRows f v) 0 i (i + 1) (omega arith) (omega arith) (λ q a b. absurd (omega arith)) in
+      -- the rows that start from the index i to e - 1 have been put after those before
+      listing-past : {e : ℕ} → i < e → e ≤ v .places → {r : ℕ} {l″ : List ℕ} → length l″ ≡ length l′ → r ≡ rows + length (run (startRows f v) i e)
+          → l″ ≡ put (f .count) rows (run (startRows f v) i e) l′ → Listing f v l e r l″
+      listing-past {e} a b {r} {l″} long er el =
+          let part = run (startRows f v) i e in
+          let u : run (startRows f v) 0 e ≡ run (startRows f v) 0 i ++ part = run-split (startRows f v) 0 i e (omega arith) (omega arith) in
           record {
             long = long ∙ s .long;
-            inside = omega arith;
-            number = rw u (er ∙ omega (arith, s .number, length-append (run (startRows f v) 0 i) (startRows f v i)));
+            inside = b;
+            number = rw u (er ∙ omega (arith, s .number, length-append (run (startRows f v) 0 i) part));
             list =
                 el
-                ∙ ap (put (f .count) rows (startRows f v i)) (s .list)
-                ∙ sym (put-append (run (startRows f v) 0 i) (startRows f v i) (f .count) 0 rows l (omega (arith, s .number)))
+                ∙ ap (put (f .count) rows part) (s .list)
+                ∙ sym (put-append (run (startRows f v) 0 i) part (f .count) 0 rows l (omega (arith, s .number)))
                 ∙ ap (λ (R : List (List ℕ)). put (f .count) 0 R l) (sym u);
           }
 
       pub listing-skip : {T : List ℕ} → Fitted f v T → (getD T i 0 ≡ 1 → ⊥) → Listing f v l (i + 1) rows l′
-      unfolding put
+      unfolding put startRows
       listing-skip fit off =
-          let e : startRows f v i ≡ [] = length-empty (startRows f v i) (omega (arith, start-length i, starts-none ok fit i inside off (f .count - 1) (limit f v (i + 1)) (least f (i + 1)))) in
-          listing-past refl (rw e (omega arith)) (rw e refl)
+          let e : run (startRows f v) i (i + 1) ≡ [] = run-one (startRows f v) i ∙ length-empty (startingIn f v (i + 1))
+          (omega (arith, count-each f v (ok .pattern .some) (i + 1) (omega arith) (omega arith) (ok .pattern .least), ways-off f v (i + 1) (off-fits ok fit i inside off) (f .count - 1) (limit f v (i + 1)) (least f (i + 1)))) in
+          listing-past (omega arith) (omega arith) refl (rw e (omega arith)) (rw e refl)
 
-      module _ {k span from : ℕ} (es : span ≡ width f) (ek : k ≡ min span (v .places - i)) (ef : from ≡ i + f .least) where
-        abbrev windowRows : ℕ → ℕ → List (List ℕ)
-        windowRows = rowsAt f v (startAt i k from)
+      -- by the table of a window w from the index i on, whose first slot has the rows from there to e - 1
+      module _ (w : Window) {e y : ℕ} (past : i < e) (end : e ≤ v .places) (ey : y + 1 ≡ e - i)
+          (same : run (rowsAt f v w 0) 0 (e - i) ≡ run (startRows f v) i e) {low high N : List ℕ} (leads : Leads (f .count) i low high N (size f w) (rowsAt f v w))
+          (room : length (occurrencesIn f v) * f .count ≤ length l) where
+        pub window-walk : Walk (f .count) i low high N 0 0 y rows (length l′)
+        window-walk =
+            let some = ok .pattern .some in
+            let short = ok .short in
+            let long = s .long in
+            record {
+              n = size f w;
+              rows = rowsAt f v w;
+              leads = leads;
+              slot = omega arith;
+              start = omega arith;
+              order = omega arith;
+              near = omega arith;
+              room = length (occurrencesIn f v);
+              fits = rw (ey, same, ← each-rows) (omega (arith, s .number, ap length (run-split (startRows f v) 0 i e (omega arith) (omega arith)), length-append (run (startRows f v) 0 i) (run (startRows f v) i e), ap length (run-split (startRows f v) 0 e (v .places) (omega arith) end), length-append (run (startRows f v) 0 e) (run (startRows f v) e (v .places))));
+              wide = rw long room;
+            }
 
-        window-rows : run (windowRows 0) 0 1 ≡ startRows f v i
-        unfolding rowsOf startRows tree
-        window-rows =
-            let a : i + 0 + 1 ≡ i + 1 = omega arith in
-            let x : stopAt f (startAt i k from) ≡ limit f v (i + 1) = fun-ext (stop-start f v i k span from es ek) in
-            let y = from-start f v i k span from es ek ef in
-            let z : f .count - 1 - 0 ≡ f .count - 1 = omega arith in
-            run-one (windowRows 0) 0 ∙ rw (a, x, y, z)
+        pub listing-more : {row : List ℕ} {r : ℕ} {l″ : List ℕ} → length l″ ≡ length l′ → Walked window-walk row l′ r l″ → Listing f v l e r l″
+        unfolding window-walk
+        listing-more {row} long d =
+            let same′ : run (rowsAt f v w 0) 0 (y + 1) ≡ run (startRows f v) i e = rw ey same in
+            listing-past past end long (rw same′ at (d .number))
+            (d .list ∙ ap (λ (R : List (List ℕ)). put (f .count) rows R l′) (map-same row (run (rowsAt f v w 0) 0 (y + 1)) ∙ same′))
 
-        module _ {low high N : List ℕ} (leads : Leads (f .count) i low high N (size f (startAt i k from)) windowRows) (room : length (occurrencesIn f v) * f .count ≤ length l) where
-          pub window-walk : Walk (f .count) i low high N 0 0 0 rows (length l′)
-          window-walk =
-              let some = ok .pattern .some in
-              let long = s .long in
-              record {
-                n = size f (startAt i k from);
-                rows = windowRows;
-                leads = leads;
-                slot = omega arith;
-                start = omega arith;
-                order = omega arith;
-                near = omega arith;
-                room = length (occurrencesIn f v);
-                fits = rw (window-rows, ← each-rows) (omega (arith, s .number, run-part (startRows f v) 0 i (v .places) (omega arith) inside));
-                wide = rw long room;
-              }
+  -- the rows of the two kinds of window
+  module _ {i e : ℕ} (inside : i < v .places) (ee : e ≡ horizon v (i + 1)) where
+    pub start-rows : {k span from : ℕ} → span ≡ width f → k ≡ min span (e - i) → from ≡ i + f .least → run (rowsAt f v (startAt i k from) 0) 0 (i + 1 - i) ≡ run (startRows f v) i (i + 1)
+    unfolding rowsOf startRows tree
+    start-rows {k} {span} {from} es ek ef =
+        let a : i + 0 + 1 ≡ i + 1 = omega arith in
+        let d : i + 1 - i ≡ 0 + 1 = omega arith in
+        let x : stopAt f (startAt i k from) ≡ limit f v (i + 1) = fun-ext (stop-start f v i k span from es ee ek) in
+        let y = from-start f v i k span from es ee ek ef in
+        let z : f .count - 1 - 0 ≡ f .count - 1 = omega arith in
+        let one : run (rowsAt f v (startAt i k from) 0) 0 (i + 1 - i) ≡ rowsAt f v (startAt i k from) 0 0 = rw d (run-one (rowsAt f v (startAt i k from) 0) 0) in
+        let rows : rowsAt f v (startAt i k from) 0 0 ≡ startingIn f v (i + 1) = rw (a, x, y, z) (sym (starting-each f v (ok .pattern .some) (i + 1) (omega arith) (omega arith) (ok .pattern .least))) in
+        one ∙ rows ∙ sym (run-one (startRows f v) i)
 
-          pub listing-more : {row : List ℕ} {r : ℕ} {l″ : List ℕ} → length l″ ≡ length l′ → Walked window-walk row l′ r l″ → Listing f v l (i + 1) r l″
-          unfolding window-walk
-          listing-more {row} long d =
-              listing-past long (rw window-rows at (d .number))
-              (d .list ∙ ap (λ (R : List (List ℕ)). put (f .count) rows R l′) (map-same row (run (windowRows 0) 0 1) ∙ window-rows))
+    pub sentence-runs : unbound f (v .places) ≡ true → run (rowsAt f v (sentenceAt i e) 0) 0 (e - i) ≡ run (startRows f v) i e
+    unfolding run rowsOf startRows
+    sentence-runs spans =
+        let l : i + 1 ≤ v .places = omega arith in
+        let b : i ≤ e = omega (arith, horizon-past v l) in
+        let x : stopAt f (sentenceAt i e) ≡ (λ j. e + 1) = fun-ext (stop-sentence f b) in
+        let z : f .count - 1 - 0 ≡ f .count - 1 = omega arith in
+        let d : e - i - 0 ≡ e - i = omega arith in
+        rw d (gather-same (e - i) (rowsAt f v (sentenceAt i e) 0) (startRows f v) 0 i
+        (λ k h. let c : i + (0 + k) + 1 ≡ i + k + 1 = omega arith in rw (c, x, z) (sym (sentence-rows ok spans inside ee (i + k) (omega arith) (omega arith)))))

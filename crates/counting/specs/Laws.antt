@@ -3,3 +3,4 @@ pub mod Inputs
 pub mod Bound
 pub mod Runs
 pub mod Stated
+pub mod Joining

@@ -2,6 +2,7 @@
 pub mod Inputs
 pub mod Numbers
 pub mod Fits
+pub mod Sentences
 pub mod Plans
 pub mod Rows
 pub mod Tables

@@ -4,6 +4,7 @@ mod gaps;
 mod halves;
 mod listing;
 mod reach;
+mod sentences;
 mod total;
 mod walk;
 mod window;

@@ -1,10 +1,12 @@
 use crate::fits::tabulate;
 use crate::gaps::Outline;
 use crate::reach::reach_all;
+use crate::sentences::horizons;
 use crate::total::count;
 use crate::walk::walk;
 use crate::window::Window;
 use basics::smaller;
+use basics::widen;
 use matching::Listed;
 use pattern::Pattern;
 use pattern::Refusal;
@@ -18,46 +20,67 @@ ghost use Rattle.counting.specs.Answers.{allListed, allWritten};
 ghost use Rattle.counting.specs.Steps.Plans.{knownView, planRows};
 ghost use Rattle.counting.specs.Steps.Listings.{PutWhole, PutEach, PutAll};
 
-// Writes all occurrences in n places where the span limits cannot bind: by one table of all of them.
+// Writes all occurrences in n places where the span limits cannot bind: by a table for each sentence.
 fn put_whole(
     low: &[u16],
     high: &[u16],
     m: usize,
     reach: usize,
     fits: &[u8],
+    lasts: &[u16],
     n: usize,
     next: &mut [u16],
     list: &mut [u16],
 )
-    requires { ⌜ PutWhole m n reach (now low) (now high) (now fits) (length (now list)) ⌝ ∗ ⌜ 320016 ≤ length (now next) ⌝ }
-    ensures { λ _. ⌜ ((g : PutWhole m n reach (now (low .entry)) (now (high .entry)) (now (fits .entry)) (length (now (list .entry)))) → now (list .exit) ≡ written m (planRows (g .plan)) (now (list .entry))) ⌝ }
+    requires { ⌜ PutWhole m n reach (now low) (now high) (now fits) (now lasts) (length (now list)) ⌝ ∗ ⌜ 320016 ≤ length (now next) ⌝ }
+    ensures { λ _. ⌜ ((g : PutWhole m n reach (now (low .entry)) (now (high .entry)) (now (fits .entry)) (now (lasts .entry)) (length (now (list .entry)))) → now (list .exit) ≡ written m (planRows (g .parts .plan)) (now (list .entry))) ⌝ }
 {
-    let w = Window {
-        first: 0,
-        places: n,
-        starts: n,
-        from: 0,
-    };
-    reach_all(low, high, m, reach, fits, w, next);
     let mut row = [0u16; 16];
-    walk(low, high, next, m, 0, 0, 0, n, &mut row, 0, list);
+    let mut rows = 0;
+    let mut i = 0;
+    while i < n {
+        let end = widen(lasts[i]);
+        let w = Window {
+            first: i,
+            places: end - i,
+            starts: end - i,
+            from: 0,
+        };
+        reach_all(low, high, m, reach, fits, w, next);
+        rows = walk(
+            low,
+            high,
+            next,
+            m,
+            i,
+            0,
+            0,
+            end - i - 1,
+            &mut row,
+            rows,
+            list,
+        );
+        i = end;
+    }
 }
 
-// Writes all occurrences of any pattern in n places: by a table for each first place, of the places that a row can span.
+// Writes all occurrences of any pattern in n places: by a table for each first place, of the places that a row can span in
+// its sentence.
 fn put_each(
     low: &[u16],
     high: &[u16],
     m: usize,
     reach: usize,
     fits: &[u8],
+    lasts: &[u16],
     n: usize,
     least: usize,
     span: usize,
     next: &mut [u16],
     list: &mut [u16],
 )
-    requires { ⌜ PutEach m n reach least span (now low) (now high) (now fits) (length (now list)) ⌝ ∗ ⌜ 320016 ≤ length (now next) ⌝ }
-    ensures { λ _. ⌜ ((g : PutEach m n reach least span (now (low .entry)) (now (high .entry)) (now (fits .entry)) (length (now (list .entry)))) → now (list .exit) ≡ written m (planRows (g .plan)) (now (list .entry))) ⌝ }
+    requires { ⌜ PutEach m n reach least span (now low) (now high) (now fits) (now lasts) (length (now list)) ⌝ ∗ ⌜ 320016 ≤ length (now next) ⌝ }
+    ensures { λ _. ⌜ ((g : PutEach m n reach least span (now (low .entry)) (now (high .entry)) (now (fits .entry)) (now (lasts .entry)) (length (now (list .entry)))) → now (list .exit) ≡ written m (planRows (g .parts .plan)) (now (list .entry))) ⌝ }
 {
     let mut row = [0u16; 16];
     let mut rows = 0;
@@ -66,7 +89,7 @@ fn put_each(
         if fits[i] == 1 {
             let w = Window {
                 first: i,
-                places: smaller(span, n - i),
+                places: smaller(span, widen(lasts[i]) - i),
                 starts: 1,
                 from: i + least,
             };
@@ -80,9 +103,9 @@ fn put_each(
 }
 
 // Writes all occurrences in n places.
-fn put_all(f: Pattern, n: usize, fits: &[u8], list: &mut [u16])
-    requires { ⌜ PutAll f n (now fits) (length (now list)) ⌝ }
-    ensures { λ _. ⌜ ((g : PutAll f n (now (fits .entry)) (length (now (list .entry)))) → now (list .exit) ≡ written (f .count) (occurrencesIn f (knownView (g .known))) (now (list .entry))) ⌝ }
+fn put_all(f: Pattern, n: usize, fits: &[u8], lasts: &[u16], list: &mut [u16])
+    requires { ⌜ PutAll f n (now fits) (now lasts) (length (now list)) ⌝ }
+    ensures { λ _. ⌜ ((g : PutAll f n (now (fits .entry)) (now (lasts .entry)) (length (now (list .entry)))) → now (list .exit) ≡ written (f .count) (occurrencesIn f (knownView (g .known))) (now (list .entry))) ⌝ }
 {
     let m = f.count;
     let o = Outline::of(f, n);
@@ -90,7 +113,7 @@ fn put_all(f: Pattern, n: usize, fits: &[u8], list: &mut [u16])
     let high = o.high;
     let mut next = [0u16; 320016];
     if o.unbound {
-        put_whole(&low, &high, m, o.reach, fits, n, &mut next, list);
+        put_whole(&low, &high, m, o.reach, fits, lasts, n, &mut next, list);
         return;
     }
     put_each(
@@ -99,6 +122,7 @@ fn put_all(f: Pattern, n: usize, fits: &[u8], list: &mut [u16])
         m,
         o.reach,
         fits,
+        lasts,
         n,
         o.least,
         o.span,
@@ -119,7 +143,9 @@ pub fn all(pattern: Pattern, text: &[u16], list: &mut [u16]) -> Listed
     let n = text.len();
     let mut fits = [0u8; 320000];
     tabulate(pattern, text, &mut fits);
-    let total = count(pattern, n, &fits);
+    let mut lasts = [0u16; 20000];
+    horizons(text, &mut lasts);
+    let total = count(pattern, n, &fits, &lasts);
     if 0 < total.hi {
         return Listed::Refused(Refusal::ListLength(0));
     }
@@ -127,6 +153,6 @@ pub fn all(pattern: Pattern, text: &[u16], list: &mut [u16]) -> Listed
     if list.len() / pattern.count < rows {
         return Listed::Refused(Refusal::ListLength(0));
     }
-    put_all(pattern, n, &fits, list);
+    put_all(pattern, n, &fits, &lasts, list);
     Listed::Rows(rows)
 }

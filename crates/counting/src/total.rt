@@ -2,9 +2,11 @@ use crate::fits::tabulate;
 use crate::gaps::Outline;
 use crate::halves::Wide;
 use crate::halves::add;
+use crate::sentences::horizons;
 use crate::window::Window;
 use crate::window::ways;
 use basics::smaller;
+use basics::widen;
 use pattern::Pattern;
 use pattern::Refusal;
 use pattern::Verdict;
@@ -16,7 +18,7 @@ ghost use Rattle.matching.specs.Spans.{width};
 ghost use Rattle.basics.specs.Sums.{total};
 ghost use Rattle.matching.specs.Occurrences.{occurrencesIn};
 ghost use Rattle.counting.specs.Steps.Numbers.{value, val};
-ghost use Rattle.counting.specs.Steps.Plans.{Known, knownView, Plan, planPattern, planView, unbound};
+ghost use Rattle.counting.specs.Steps.Plans.{Known, knownView, Parted, planPattern, planView, unbound};
 ghost use Rattle.counting.specs.Steps.Rows.{Room, Blank, Column};
 ghost use Rattle.counting.specs.Answers.{tallied};
 
@@ -26,44 +28,52 @@ pub enum Tallied {
     Refused(Refusal),
 }
 
-// The column of n places where the span limits cannot bind: one run over all of them.
+// The column of n places where the span limits cannot bind: a run for each sentence.
 fn whole(
     low: &[u16],
     high: &[u16],
     m: usize,
     reach: usize,
     fits: &[u8],
+    lasts: &[u16],
     n: usize,
     hi: &mut [u64],
     lo: &mut [u64],
 )
-    requires { ⌜ Plan m n reach (now low) (now high) (now fits) ⌝ ∗ ⌜ Room n (now hi) (now lo) ⌝ }
-    ensures { λ _. ⌜ ((g : Plan m n reach (now (low .entry)) (now (high .entry)) (now (fits .entry))) → unbound (planPattern g) n ≡ true → Column (planPattern g) (planView g) (now (hi .exit)) (now (lo .exit))) ⌝ }
+    requires { ⌜ Parted m n reach (now low) (now high) (now fits) (now lasts) ⌝ ∗ ⌜ Room n (now hi) (now lo) ⌝ }
+    ensures { λ _. ⌜ ((g : Parted m n reach (now (low .entry)) (now (high .entry)) (now (fits .entry)) (now (lasts .entry))) → unbound (planPattern (g .plan)) n ≡ true → Column (planPattern (g .plan)) (planView (g .plan)) (now (hi .exit)) (now (lo .exit))) ⌝ }
 {
-    let w = Window {
-        first: 0,
-        places: n,
-        starts: n,
-        from: 0,
-    };
-    ways(low, high, m, reach, fits, w, hi, lo);
+    let mut i = 0;
+    while i < n {
+        let end = widen(lasts[i]);
+        let w = Window {
+            first: i,
+            places: end - i,
+            starts: end - i,
+            from: 0,
+        };
+        ways(low, high, m, reach, fits, w, &mut hi[i..], &mut lo[i..]);
+        i = end;
+    }
 }
 
-// The column of n places for any pattern, from one of zeros: a run for each first place, over the places that a row can span.
+// The column of n places for any pattern, from one of zeros: a run for each first place, over the places that a row
+// can span in its sentence.
 fn each(
     low: &[u16],
     high: &[u16],
     m: usize,
     reach: usize,
     fits: &[u8],
+    lasts: &[u16],
     n: usize,
     least: usize,
     span: usize,
     hi: &mut [u64],
     lo: &mut [u64],
 )
-    requires { ⌜ Plan m n reach (now low) (now high) (now fits) ⌝ ∗ ⌜ Blank n (now hi) (now lo) ⌝ ∗ ⌜ (least < 65536) × (1 ≤ span) × (span ≤ 961) ⌝ }
-    ensures { λ _. ⌜ ((g : Plan m n reach (now (low .entry)) (now (high .entry)) (now (fits .entry))) → least ≡ g .least → span ≡ width (planPattern g) → Column (planPattern g) (planView g) (now (hi .exit)) (now (lo .exit))) ⌝ }
+    requires { ⌜ Parted m n reach (now low) (now high) (now fits) (now lasts) ⌝ ∗ ⌜ Blank n (now hi) (now lo) ⌝ ∗ ⌜ (least < 65536) × (1 ≤ span) × (span ≤ 961) ⌝ }
+    ensures { λ _. ⌜ ((g : Parted m n reach (now (low .entry)) (now (high .entry)) (now (fits .entry)) (now (lasts .entry))) → least ≡ g .plan .least → span ≡ width (planPattern (g .plan)) → Column (planPattern (g .plan)) (planView (g .plan)) (now (hi .exit)) (now (lo .exit))) ⌝ }
 {
     let mut x = [0u64; 1000];
     let mut y = [0u64; 1000];
@@ -72,7 +82,7 @@ fn each(
         if fits[i] == 1 {
             let w = Window {
                 first: i,
-                places: smaller(span, n - i),
+                places: smaller(span, widen(lasts[i]) - i),
                 starts: 1,
                 from: i + least,
             };
@@ -87,19 +97,31 @@ fn each(
 }
 
 // How many occurrences start at each of n places, in a column of zeros.
-fn column(f: Pattern, n: usize, fits: &[u8], hi: &mut [u64], lo: &mut [u64])
-    requires { ⌜ Known f n (now fits) ⌝ ∗ ⌜ Blank n (now hi) (now lo) ⌝ }
-    ensures { λ _. ⌜ ((k : Known f n (now (fits .entry))) → Column f (knownView k) (now (hi .exit)) (now (lo .exit))) ⌝ }
+fn column(f: Pattern, n: usize, fits: &[u8], lasts: &[u16], hi: &mut [u64], lo: &mut [u64])
+    requires { ⌜ Known f n (now fits) (now lasts) ⌝ ∗ ⌜ Blank n (now hi) (now lo) ⌝ }
+    ensures { λ _. ⌜ ((k : Known f n (now (fits .entry)) (now (lasts .entry))) → Column f (knownView k) (now (hi .exit)) (now (lo .exit))) ⌝ }
 {
     let m = f.count;
     let o = Outline::of(f, n);
     let low = o.low;
     let high = o.high;
     if o.unbound {
-        whole(&low, &high, m, o.reach, fits, n, hi, lo);
+        whole(&low, &high, m, o.reach, fits, lasts, n, hi, lo);
         return;
     }
-    each(&low, &high, m, o.reach, fits, n, o.least, o.span, hi, lo);
+    each(
+        &low,
+        &high,
+        m,
+        o.reach,
+        fits,
+        lasts,
+        n,
+        o.least,
+        o.span,
+        hi,
+        lo,
+    );
 }
 
 // The sum of n numbers.
@@ -121,13 +143,13 @@ fn sum(n: usize, hi: &[u64], lo: &[u64]) -> Wide
 }
 
 // The number of all occurrences in n places.
-pub(crate) fn count(f: Pattern, n: usize, fits: &[u8]) -> Wide
-    requires { ⌜ Known f n (now fits) ⌝ }
-    ensures { λ r. ⌜ ((k : Known f n (now (fits .entry))) → value r ≡ length (occurrencesIn f (knownView k))) ⌝ }
+pub(crate) fn count(f: Pattern, n: usize, fits: &[u8], lasts: &[u16]) -> Wide
+    requires { ⌜ Known f n (now fits) (now lasts) ⌝ }
+    ensures { λ r. ⌜ ((k : Known f n (now (fits .entry)) (now (lasts .entry))) → value r ≡ length (occurrencesIn f (knownView k))) ⌝ }
 {
     let mut hi = [0u64; 20001];
     let mut lo = [0u64; 20001];
-    column(f, n, fits, &mut hi, &mut lo);
+    column(f, n, fits, lasts, &mut hi, &mut lo);
     sum(n, &hi, &lo)
 }
 
@@ -141,7 +163,9 @@ pub fn tally(pattern: Pattern, text: &[u16]) -> Tallied
     }
     let mut fits = [0u8; 320000];
     tabulate(pattern, text, &mut fits);
-    let total = count(pattern, text.len(), &fits);
+    let mut lasts = [0u16; 20000];
+    horizons(text, &mut lasts);
+    let total = count(pattern, text.len(), &fits, &lasts);
     if 0 < total.hi {
         return Tallied::Refused(Refusal::Tally);
     }

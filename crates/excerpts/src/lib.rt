@@ -6,9 +6,10 @@ use pattern::Refusal;
 use pattern::Slot;
 use pattern::Verdict;
 ghost use mathlib.Core.Path.{_≡_};
-ghost use Prim.Native.Nat.{_+_, _*_, _<_};
+ghost use Prim.Native.Nat.{_+_, _*_, _≤_, _<_};
+ghost use lib.ListN.{length};
 ghost use Rattle.excerpts.specs.Answers.{isOccurrence, excerptOf, excerptStart};
-ghost use Rattle.excerpts.specs.Steps.Conditions.{Decides, Sized, PlaceFits, GapFits, SpanFits, WordsFit, GapsFit};
+ghost use Rattle.excerpts.specs.Steps.Conditions.{Decides, Sized, PlaceFits, GapFits, SpanFits, SentenceFits, WordsFit, GapsFit};
 
 // Whether a row is an occurrence, or why it is not tested.
 pub enum Tested {
@@ -96,7 +97,22 @@ fn span_fits(first: usize, last: usize, least: usize, most: usize) -> bool
     true
 }
 
-// Whether the row is an occurrence (document 01: test): word, gap and span in the order of Definition 3.
+// Whether no sentence ends strictly between the places first and last.
+fn sentence_fits(text: &[u16], first: usize, last: usize) -> bool
+    requires { ⌜ (1 ≤ first) × (first ≤ length (now text)) × (last ≤ length (now text)) ⌝ }
+    ensures { λ r. ⌜ Decides r (SentenceFits (now (text .entry)) first last) ⌝ }
+{
+    let mut place = first + 1;
+    while place < last {
+        if text[place - 1] == 0 {
+            return false;
+        }
+        place += 1;
+    }
+    true
+}
+
+// Whether the row is an occurrence (document 01: test): word, gap and span in the order of Definition 3, then the sentence.
 pub fn is_occurrence(pattern: Pattern, text: &[u16], row: &[u16]) -> Tested
     ensures { λ r. ⌜ r ≡ isOccurrence pattern (now (text .entry)) (now (row .entry)) ⌝ }
 {
@@ -112,14 +128,15 @@ pub fn is_occurrence(pattern: Pattern, text: &[u16], row: &[u16]) -> Tested
     if !gaps {
         return Tested::No;
     }
-    let last = pattern.count - 1;
-    let span = span_fits(
-        widen(row[0]),
-        widen(row[last]),
-        widen(pattern.least),
-        widen(pattern.most),
-    );
+    let j = pattern.count - 1;
+    let first = widen(row[0]);
+    let last = widen(row[j]);
+    let span = span_fits(first, last, widen(pattern.least), widen(pattern.most));
     if !span {
+        return Tested::No;
+    }
+    let sentence = sentence_fits(text, first, last);
+    if !sentence {
         return Tested::No;
     }
     Tested::Yes

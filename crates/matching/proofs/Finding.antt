@@ -9,7 +9,7 @@ use lib.Seq.{getD-take}
 use Rattle.pattern.specs.declared.Pattern.{Pattern}
 use Rattle.basics.specs.Laws.Arrays.{zeros-at}
 use Rattle.matching.specs.declared.search.Answer.{Answer}
-use Rattle.matching.specs.Occurrence.{View, OccursIn, at}
+use Rattle.matching.specs.Occurrence.{View, Unbroken, OccursIn, at}
 use Rattle.matching.specs.Rows.{level, Before, NotAfter}
 use Rattle.matching.specs.Lists.{leftmostIn}
 use Rattle.matching.specs.Steps.Settling.{Ready, Answered, Spare}
@@ -31,9 +31,10 @@ pub record Counted (g : Pattern) (u : View) (marks : List ℕ) (k : ℕ) : Type 
   pub below : k ≤ at marks 0
   pub inside : at marks 0 ≤ u .places
   pub spare : Spare (g .count) marks
+  pub clear : Unbroken (u .ends) (at marks 0) (at marks (g .count - 1))
 
 unfoldable pub counted-begin : (g : Pattern) (u : View) → g .count ≤ 16 → Counted g u (replicate 16 0) 0
-counted-begin g u few = record { rows = []; run = rw (take-zeros (g .count) 16 few) start; size = refl; below = omega arith; inside = omega arith; spare = record { size = refl; rest = λ j _. zeros-at 16 j } }
+counted-begin g u few = record { rows = []; run = rw (take-zeros (g .count) 16 few) start; size = refl; below = omega arith; inside = omega arith; spare = record { size = refl; rest = λ j _. zeros-at 16 j }; clear = λ x a b. absurd (omega (arith, zeros-at 16 (g .count - 1))) }
 
 pub counted-few : {g : Pattern} {u : View} {marks : List ℕ} {k : ℕ} → Counted g u marks k → Ready g (u .places) → k ≤ 20000
 counted-few C ok = omega (arith, C .below, C .inside, ok .short)
@@ -69,6 +70,7 @@ module _ {g : Pattern} {u : View} {marks : List ℕ} {k : ℕ} (C : Counted g u 
         below = omega (arith, C .below, E .past 0 (ok .some), getD-take m (a .places) 0 0 (ok .some));
         inside = omega (arith, E .hit .inside 0 (ok .some), getD-take m (a .places) 0 0 (ok .some));
         spare = record { size = A .size e; rest = A .rest e };
+        clear = λ x h l. E .hit .sentence x (omega (arith, getD-take m (a .places) 0 0 (ok .some))) (omega (arith, getD-take m (a .places) (m - 1) 0 (omega (arith, ok .some))));
       }
 
   pub counted-less : a .found ≡ true → 20001 - at (a .places) 0 < 20001 - at marks 0

@@ -4,6 +4,7 @@ mod Reading
 mod Laying
 mod Raising
 mod Settling
+mod Keeping
 mod Turning
 mod Answering
 mod Finding

@@ -6,9 +6,10 @@ use mathlib.Core.Bool.{Bool, true, false, true≢false, false≢true}
 use mathlib.Core.Path.{_≡_, refl, sym, ap, _∙_}
 use lib.ListN.{length, getD}
 use borrow.Author.Count.{below-more}
+use borrow.Author.Tests.{eq-eqb, ne-eqb}
 use Rattle.pattern.specs.declared.slot.Slot.{Slot}
 use Rattle.pattern.specs.Patterns.{takes}
-use Rattle.matching.specs.Occurrence.{wordAt, takesAt}
+use Rattle.matching.specs.Occurrence.{wordAt, takesAt, endsAt}
 use Rattle.matching.specs.Steps.Turning.{seen}
 use Rattle.basics.specs.Laws.Collections.{getD-reverse}
 
@@ -28,3 +29,10 @@ seen-back false t p e h k = absurd (false≢true e)
 pub seen-on : (b : Bool) (t : List ℕ) (p : ℕ) → b ≡ false → getD t (p - 1) 0 ≡ wordAt (seen b t) p
 seen-on true t p e = absurd (true≢false e)
 seen-on false t p e = refl
+
+-- whether a sentence ends at a place, by its word w
+pub ended : (u : List ℕ) (p : ℕ) {w : ℕ} → w ≡ wordAt u p → w ≡ 0 → endsAt u p ≡ true
+ended u p d e = eq-eqb (wordAt u p) 0 (sym d ∙ e)
+
+pub unended : (u : List ℕ) (p : ℕ) {w : ℕ} → w ≡ wordAt u p → (w ≡ 0 → ⊥) → endsAt u p ≡ false
+unended u p d n = ne-eqb (wordAt u p) 0 (λ e. n (d ∙ e))

@@ -1,4 +1,5 @@
--- The rounds over the slots: when no slot of the last round asks more, the row is an occurrence, and the earliest. Assumes nothing.
+-- The rounds over the slots: when no slot of the last round asks more, the row is an occurrence wherever sentences end, and the earliest.
+-- Assumes nothing.
 use Prim.Native.Nat.{ℕ, _+_, _-_, _≤_, _<_}
 use mathlib.Core.List.{List}
 use mathlib.Core.Bool.{true, false, true≢false}
@@ -59,10 +60,10 @@ module _ {f : Pattern} {v : View} where
   pub all-calm : {p₀ p : List ℕ} {calm j : ℕ} → Calm f v p₀ p calm j → f .count ≤ calm → (k : ℕ) → k < f .count → Stable f v p k
   all-calm {j = j} S h k l = elim (decLt k j) [ yes a ↦ S .near k a (omega (arith, S .slot)) | no a ↦ S .far k l (omega arith) ]
 
--- a row at which nothing has to be raised is an occurrence
-pub occurs : (f : Pattern) (v : View) (p : List ℕ) → 1 ≤ f .count → f .count ≤ length p
+-- where no sentence ends, a row at which nothing has to be raised is an occurrence
+pub occurs : (f : Pattern) (v : View) (p : List ℕ) → ((x : ℕ) → v .ends x ≡ false) → 1 ≤ f .count → f .count ≤ length p
     → ((k : ℕ) → k < f .count → 1 ≤ at p k) → ((k : ℕ) → k < f .count → Stable f v p k) → OccursIn f v (take (f .count) p)
-occurs f v p some few pos still =
+occurs f v p endless some few pos still =
     let m = f .count in
     let e : (k : ℕ) → k < m → at (take m p) k ≡ at p k = λ k h. getD-take m p k 0 h in
     let last : m - 1 < m = omega arith in
@@ -76,14 +77,15 @@ occurs f v p some few pos still =
           let y : 0 < k + 1 = omega arith in
           omega (arith, e k z, e (k + 1) h, rw i at (still (k + 1) h .bound .after y), still k z .bound .before h);
       span = let y : m - 1 + 1 ≡ m = omega arith in omega (arith, e 0 some, e (m - 1) last, still (m - 1) last .bound .ends y, still 0 some .bound .starts refl);
+      sentence = λ x a b. endless x;
     }
 
 -- nothing is left to raise
-pub settled : {f : Pattern} {v : View} {p₀ p : List ℕ} → Ready f (v .places) → Placed (f .count) p₀ → Raised f v p₀ p
+pub settled : {f : Pattern} {v : View} {p₀ p : List ℕ} → ((x : ℕ) → v .ends x ≡ false) → Ready f (v .places) → Placed (f .count) p₀ → Raised f v p₀ p
     → ((k : ℕ) → k < f .count → Stable f v p k) → Settled f v p₀ (record { found = true; places = p })
-settled {f = f} {v = v} {p = p} ok pos S still =
+settled {f = f} {v = v} {p = p} endless ok pos S still =
     record {
-      occurs = λ _. occurs f v p (ok .some) (omega (arith, S .size, ok .few)) (placed S pos) still;
+      occurs = λ _. occurs f v p endless (ok .some) (omega (arith, S .size, ok .few)) (placed S pos) still;
       size = λ _. S .size;
       above = λ _. S .above;
       rest = λ _. S .rest;

@@ -8,6 +8,7 @@ pub mod Lattice
 pub mod Direction
 pub mod Greedy
 pub mod Ordering
+pub mod Sentences
 pub mod Branches
 pub mod Cover
 pub mod Searching
@@ -17,7 +18,10 @@ pub mod Largest
 pub mod Views
 pub mod Lengths
 pub mod Texts
+pub mod SentenceTexts
 pub mod Mirror
 pub mod Turning
 pub mod Ready
 pub mod Stated
+pub mod Pieces
+pub mod Joining

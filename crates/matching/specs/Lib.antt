@@ -12,5 +12,6 @@ pub mod Rising
 pub mod Largest
 pub mod Answers
 pub mod Texts
+pub mod SentenceTexts
 pub mod Steps
 pub mod Laws

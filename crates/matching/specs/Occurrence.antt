@@ -1,10 +1,12 @@
--- Definitions 3 and 4 of document 004: when a row of places is an occurrence of a pattern in a text, and when two rows overlap.
+-- Definitions 3 and 4 of document 004, and the rule on sentences: when a row of places is an occurrence of a pattern in a text, and when two
+-- rows overlap.
 -- An occurrence is said of whatever can be seen of a text at its places; the text itself is one such view.
 use Prim.Native.Nat.{ℕ, _+_, _-_, _≤_, _<_}
 use mathlib.Core.List.{List}
-use mathlib.Core.Bool.{Bool, true}
+use mathlib.Core.Bool.{Bool, true, false}
 use mathlib.Core.Path.{_≡_}
 use lib.ListN.{length, getD}
+use lib.Dec.{eqb}
 use Rattle.pattern.specs.declared.slot.Slot.{Slot}
 use Rattle.pattern.specs.declared.Pattern.{Pattern}
 use Rattle.pattern.specs.Patterns.{takes, slotAt}
@@ -17,27 +19,39 @@ wordAt t p = getD t (p - 1) 0
 abbrev pub takesAt : Slot → List ℕ → ℕ → Bool
 takesAt s t p = takes s (wordAt t p)
 
--- what is seen of a text, with a pattern in hand: how many places there are, and which slot fits which place
+-- a sentence ends at the place: its word is 0
+abbrev pub endsAt : List ℕ → ℕ → Bool
+endsAt t p = eqb (wordAt t p) 0
+
+-- what is seen of a text, with a pattern in hand: how many places there are, which slot fits which place, and where sentences end
 pub record View : Type 0 where
   pub places : ℕ
   -- slot j, counted from 0, fits place p
   pub fits : ℕ → ℕ → Bool
+  -- a sentence ends at place p
+  pub ends : ℕ → Bool
 
--- the text as it stands: a slot fits the places whose words it takes
+-- the text as it stands: a slot fits the places whose words it takes, and a sentence ends at each 0
 abbrev pub plain : Pattern → List ℕ → View
-plain f t = record { places = length t; fits = λ j p. takesAt (slotAt f j) t p }
+plain f t = record { places = length t; fits = λ j p. takesAt (slotAt f j) t p; ends = endsAt t }
 
 -- the place of a row at slot j, counted from 0
 abbrev pub at : List ℕ → ℕ → ℕ
 at r j = getD r j 0
 
+-- no sentence ends strictly between the places p and q
+abbrev pub Unbroken : (ℕ → Bool) → ℕ → ℕ → Type 0
+Unbroken ends p q = (x : ℕ) → p < x → x < q → ends x ≡ false
+
 -- Definition 3, an occurrence (document 01: hit). The gap before slot j + 1 has low to high words, and all of the row spans least to most.
+-- Beyond that definition the row keeps to one sentence (document 02, Job 1).
 pub record OccursIn (f : Pattern) (v : View) (r : List ℕ) : Type 0 where
   pub size : length r ≡ f .count
   pub inside : (j : ℕ) → j < f .count → (1 ≤ at r j) × (at r j ≤ v .places)
   pub fit : (j : ℕ) → j < f .count → v .fits j (at r j) ≡ true
   pub gap : (j : ℕ) → j + 1 < f .count → (at r j + slotAt f (j + 1) .low + 1 ≤ at r (j + 1)) × (at r (j + 1) ≤ at r j + slotAt f (j + 1) .high + 1)
   pub span : (at r 0 + f .least ≤ at r (f .count - 1) + 1) × (at r (f .count - 1) + 1 ≤ at r 0 + f .most)
+  pub sentence : Unbroken (v .ends) (at r 0) (at r (f .count - 1))
 
 -- an occurrence in a text
 abbrev pub Occurs : Pattern → List ℕ → List ℕ → Type 0

@@ -1,7 +1,7 @@
 -- All occurrences of a pattern in a text, each once, first place first, ties by the next slot (document 01: the full list).
 -- Their number is the tally.
 use Prim.Native.Nat.{ℕ, zero, suc, _+_, _-_, _<_}
-use mathlib.Core.Bool.{Bool, true, _&&_}
+use mathlib.Core.Bool.{Bool, true, not, _&&_}
 use mathlib.Core.List.{List, [], _∷_, _++_, map}
 use lib.ListN.{length}
 use lib.Dec.{leb, eqb}
@@ -10,7 +10,7 @@ use Rattle.pattern.specs.Patterns.{slotAt}
 use Rattle.matching.specs.Occurrence.{View, plain, at}
 use Rattle.basics.specs.Collections.{select}
 
--- ---- the test of Definition 3
+-- ---- the test of an occurrence
 
 -- x lies within low to high
 unfoldable pub within : ℕ → ℕ → ℕ → Bool
@@ -21,7 +21,11 @@ unfoldable pub each : ℕ → (ℕ → Bool) → Bool
 each zero p = true
 each (suc n) p = p n && each n p
 
--- the row is an occurrence: size, inside, fit, gap and span as the record has them
+-- no sentence ends strictly between the places p and q
+unfoldable pub unbroken : (ℕ → Bool) → ℕ → ℕ → Bool
+unbroken ends p q = each (q - p - 1) (λ i. not (ends (p + i + 1)))
+
+-- the row is an occurrence: size, inside, fit, gap, span and sentence as the record has them
 unfoldable pub occursIn : Pattern → View → List ℕ → Bool
 occursIn f v r =
     eqb (length r) (f .count)
@@ -29,6 +33,7 @@ occursIn f v r =
     && each (f .count) (λ j. v .fits j (at r j))
     && each (f .count - 1) (λ j. within (at r j + slotAt f (j + 1) .low + 1) (at r (j + 1)) (at r j + slotAt f (j + 1) .high + 1))
     && within (at r 0 + f .least) (at r (f .count - 1) + 1) (at r 0 + f .most)
+    && unbroken (v .ends) (at r 0) (at r (f .count - 1))
 
 -- in a text
 abbrev pub occurs : Pattern → List ℕ → List ℕ → Bool

@@ -2,7 +2,7 @@ ghost use Prim.Native.Nat.{_≤_, _<_};
 ghost use Rattle.matching.specs.Steps.Bounds.{Larger, Behind, Ahead, Least, Between, Prior, Next};
 
 // The larger of two numbers.
-fn larger(a: usize, b: usize) -> usize
+pub(crate) fn larger(a: usize, b: usize) -> usize
     ensures { λ r. ⌜ Larger a b r ⌝ }
 {
     if a < b { b } else { a }

@@ -36,11 +36,14 @@ fn count_rows(g: Pattern, text: &[u16], mirrored: bool) -> usize
     requires { ⌜ Ready g (length (now text)) ⌝ }
     ensures { λ r. ⌜ (r ≡ length (leftmostIn g (viewed mirrored g (now (text .entry))))) × (r ≤ 20000) ⌝ }
 {
+    let m = g.count;
     let laid = lay_out(g);
+    let j = m - 1;
     let mut last = [0u16; 16];
     let mut k: usize = 0;
     loop {
-        if advance(&laid, g.count, g.least, g.most, text, mirrored, &mut last) {
+        let clear = widen(last[j]);
+        if advance(&laid, m, g.least, g.most, text, mirrored, clear, &mut last) {
             k += 1;
         } else {
             return k;
@@ -56,10 +59,12 @@ fn write_rows(g: Pattern, text: &[u16], mirrored: bool, list: &mut [u16]) -> usi
 {
     let m = g.count;
     let laid = lay_out(g);
+    let j = m - 1;
     let mut row = [0u16; 16];
     let mut k: usize = 0;
     loop {
-        if advance(&laid, m, g.least, g.most, text, mirrored, &mut row) {
+        let clear = widen(row[j]);
+        if advance(&laid, m, g.least, g.most, text, mirrored, clear, &mut row) {
             let at = k * m;
             put_row(&mut list[at..], &row, m);
             k += 1;

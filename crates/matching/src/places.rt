@@ -1,11 +1,11 @@
 use pattern::Slot;
 ghost use mathlib.Core.Path.{_≡_};
-ghost use Prim.Native.Nat.{_≤_};
+ghost use Prim.Native.Nat.{_+_, _≤_};
 ghost use lib.ListN.{length};
 ghost use Rattle.pattern.specs.declared.slot.Slot.{Slot};
 ghost use Rattle.pattern.specs.Numbers.{Numbers};
-ghost use Rattle.matching.specs.Occurrence.{wordAt, takesAt};
-ghost use Rattle.matching.specs.Steps.Bounds.{First};
+ghost use Rattle.matching.specs.Occurrence.{wordAt, takesAt, endsAt};
+ghost use Rattle.matching.specs.Steps.Bounds.{First, LastEnd};
 ghost use Rattle.matching.specs.Steps.Turning.{seen};
 
 // The word at a place, counted from the text's end where it is mirrored.
@@ -35,4 +35,19 @@ pub(crate) fn first(slot: &[u16], text: &[u16], mirrored: bool, from: usize) -> 
         p += 1;
     }
     p
+}
+
+// The last place from `from` on and before `to` at which a sentence ends, or 0.
+pub(crate) fn last_end(text: &[u16], mirrored: bool, from: usize, to: usize) -> usize
+    requires { ⌜ (1 ≤ from) × (to ≤ length (now text) + 1) ⌝ }
+    ensures { λ r. ⌜ LastEnd (endsAt (seen mirrored (now (text .entry)))) from to r ⌝ }
+{
+    let mut p = to;
+    while from < p {
+        p -= 1;
+        if word(text, mirrored, p) == 0 {
+            return p;
+        }
+    }
+    0
 }

@@ -1,14 +1,17 @@
+use crate::bounds::larger;
 use crate::bounds::need;
 use crate::bounds::next;
 use crate::bounds::prior;
 use crate::laid::lay_out;
 use crate::places::first;
+use crate::places::last_end;
 use basics::widen;
 use pattern::Pattern;
 ghost use lib.ListN.{length};
-ghost use Rattle.matching.specs.Steps.Settling.{Ready, Visited, Entries, Settled, Started, Answered, Spare};
+ghost use Rattle.matching.specs.Occurrence.{Unbroken, endsAt, at};
+ghost use Rattle.matching.specs.Steps.Settling.{Ready, Visited, loose, Entries, Settled, Started, Answered, Spare};
 ghost use Rattle.matching.specs.Steps.Laid.{Plan, Visitable, Raisable, Searchable, planned};
-ghost use Rattle.matching.specs.Steps.Turning.{viewed};
+ghost use Rattle.matching.specs.Steps.Turning.{seen, viewed};
 
 // Whether there is an occurrence, and then its places, 0 past the pattern's slots.
 pub struct Answer {
@@ -28,7 +31,7 @@ fn visit(
     j: usize,
 ) -> usize
     requires { ⌜ Visitable (length (now text)) m least most (now laid) (now p) j ⌝ }
-    ensures { λ r. ⌜ ((w : Plan (length (now (text .entry))) m least most (now (laid .entry))) → Visited (planned w) (viewed mirrored (planned w) (now (text .entry))) (now (p .entry)) j r) ⌝ }
+    ensures { λ r. ⌜ ((w : Plan (length (now (text .entry))) m least most (now (laid .entry))) → Visited (planned w) (loose (viewed mirrored (planned w) (now (text .entry)))) (now (p .entry)) j r) ⌝ }
 {
     let i = prior(j, m);
     let k = next(j, m);
@@ -48,7 +51,8 @@ fn visit(
     first(&laid[at..at + 11], text, mirrored, from)
 }
 
-// Raises the row to the earliest occurrence at or after it, if there is one: the slots are visited in turn until none asks more.
+// Raises the row to the earliest occurrence at or after it, wherever sentences end, if there is one: the slots are visited in turn
+// until none asks more.
 fn settle(
     laid: &[u16],
     m: usize,
@@ -59,7 +63,7 @@ fn settle(
     p: &mut [u16],
 ) -> bool
     requires { ⌜ Raisable (length (now text)) m least most (now laid) (now p) ⌝ }
-    ensures { λ r. ⌜ ((w : Plan (length (now (text .entry))) m least most (now (laid .entry))) → Settled (planned w) (viewed mirrored (planned w) (now (text .entry))) (now (p .entry)) (record { found = r; places = now (p .exit) })) ⌝ }
+    ensures { λ r. ⌜ ((w : Plan (length (now (text .entry))) m least most (now (laid .entry))) → Settled (planned w) (loose (viewed mirrored (planned w) (now (text .entry)))) (now (p .entry)) (record { found = r; places = now (p .exit) })) ⌝ }
 {
     let n = text.len();
     let mut calm: usize = 0;
@@ -99,7 +103,39 @@ fn start(m: usize, n: usize, p: &mut [u16]) -> bool
     true
 }
 
-// Raises the row to the earliest occurrence past it, if there is one.
+// Raises the row to the earliest occurrence at or after it, if there is one: where a sentence ends inside a row, none starts before
+// that place. None ends past the row's first place and before `clear`.
+fn keep(
+    laid: &[u16],
+    m: usize,
+    least: u16,
+    most: u16,
+    text: &[u16],
+    mirrored: bool,
+    clear: usize,
+    p: &mut [u16],
+) -> bool
+    requires { ⌜ Raisable (length (now text)) m least most (now laid) (now p) ⌝ ∗ ⌜ Unbroken (endsAt (seen mirrored (now text))) (at (now p) 0) clear ⌝ }
+    ensures { λ r. ⌜ ((w : Plan (length (now (text .entry))) m least most (now (laid .entry))) → Settled (planned w) (viewed mirrored (planned w) (now (text .entry))) (now (p .entry)) (record { found = r; places = now (p .exit) })) ⌝ }
+{
+    let j = m - 1;
+    let mut from = clear;
+    loop {
+        if settle(laid, m, least, most, text, mirrored, p) {
+            let to = widen(p[j]);
+            let end = last_end(text, mirrored, larger(from, widen(p[0]) + 1), to);
+            if end == 0 {
+                return true;
+            }
+            p[0] = end as u16;
+            from = to;
+        } else {
+            return false;
+        }
+    }
+}
+
+// Raises the row to the earliest occurrence past it, if there is one. No sentence ends past its first place and before `clear`.
 pub(crate) fn advance(
     laid: &[u16],
     m: usize,
@@ -107,13 +143,14 @@ pub(crate) fn advance(
     most: u16,
     text: &[u16],
     mirrored: bool,
+    clear: usize,
     p: &mut [u16],
 ) -> bool
-    requires { ⌜ Searchable (length (now text)) m least most (now laid) (now p) ⌝ }
+    requires { ⌜ Searchable (length (now text)) m least most (now laid) (now p) ⌝ ∗ ⌜ Unbroken (endsAt (seen mirrored (now text))) (at (now p) 0) clear ⌝ }
     ensures { λ r. ⌜ ((w : Plan (length (now (text .entry))) m least most (now (laid .entry))) → Answered (planned w) (viewed mirrored (planned w) (now (text .entry))) (now (p .entry)) (record { found = r; places = now (p .exit) })) ⌝ }
 {
     if start(m, text.len(), p) {
-        return settle(laid, m, least, most, text, mirrored, p);
+        return keep(laid, m, least, most, text, mirrored, clear, p);
     }
     false
 }
@@ -125,6 +162,15 @@ pub(crate) fn search(f: Pattern, text: &[u16], mirrored: bool, marks: [u16; 16])
 {
     let laid = lay_out(f);
     let mut places = marks;
-    let found = advance(&laid, f.count, f.least, f.most, text, mirrored, &mut places);
+    let found = advance(
+        &laid,
+        f.count,
+        f.least,
+        f.most,
+        text,
+        mirrored,
+        0,
+        &mut places,
+    );
     Answer { places, found }
 }

@@ -13,6 +13,8 @@ struct Input<'a> {
     takes: Vec<Vec<bool>>,
     /// For each slot, how far it can be from the first.
     reach: Vec<usize>,
+    /// For each index, the last place that a row from there can have: where its sentence ends, or the text.
+    lasts: Vec<u16>,
     least: usize,
     most: usize,
     words: usize,
@@ -23,6 +25,19 @@ struct Window {
     start: usize,
     widths: Vec<usize>,
     from: usize,
+}
+
+/// For each index, where its sentence ends, or the text.
+fn horizons(text: &[u16]) -> Vec<u16> {
+    let mut lasts = vec![0; text.len()];
+    let mut last = text.len() as u16;
+    for (i, (entry, &word)) in lasts.iter_mut().zip(text).enumerate().rev() {
+        *entry = last;
+        if word == 0 {
+            last = (i + 1) as u16;
+        }
+    }
+    lasts
 }
 
 impl<'a> Input<'a> {
@@ -41,6 +56,7 @@ impl<'a> Input<'a> {
             slots,
             takes: slots.iter().map(takes).collect(),
             reach: slots.iter().scan(0, distance).collect(),
+            lasts: horizons(text),
             least: pattern.least as usize,
             most: pattern.most as usize,
             words: text.len(),
@@ -58,17 +74,23 @@ impl<'a> Input<'a> {
         self.reach[self.slots.len() - 1] + 1
     }
 
-    /// The whole text as one window.
-    fn whole(&self) -> Window {
-        Window { start: 0, widths: vec![self.words; self.slots.len()], from: 0 }
+    /// Hands over a window for each sentence.
+    fn each_sentence(&self, mut take: impl FnMut(&Window)) {
+        let mut window = Window { start: 0, widths: vec![0; self.slots.len()], from: 0 };
+        while window.start < self.words {
+            let end = self.lasts[window.start] as usize;
+            window.widths.fill(end - window.start);
+            take(&window);
+            window.start = end;
+        }
     }
 
     /// Hands over a window for each first place, with the places that a row from there can have.
-    fn each_window(&self, mut take: impl FnMut(&Window)) {
+    fn each_start(&self, mut take: impl FnMut(&Window)) {
         let widest = self.widest().min(self.most);
-        let mut window = self.whole();
+        let mut window = Window { start: 0, widths: vec![0; self.slots.len()], from: 0 };
         for start in (0..self.words).filter(|&start| self.takes[0][start]) {
-            let room = widest.min(self.words - start);
+            let room = widest.min(self.lasts[start] as usize - start);
             window.start = start;
             window.from = start + self.least;
             for (width, reach) in window.widths.iter_mut().zip(&self.reach) {
@@ -110,11 +132,12 @@ impl<'a> Input<'a> {
     fn total(&self) -> u128 {
         let mut sums = vec![0; self.words + 1];
         let mut next = sums.clone();
-        if self.unbound() {
-            return self.ways(&self.whole(), &mut sums, &mut next);
-        }
         let mut total = 0;
-        self.each_window(|window| total += self.ways(window, &mut sums, &mut next));
+        if self.unbound() {
+            self.each_sentence(|window| total += self.ways(window, &mut sums, &mut next));
+        } else {
+            self.each_start(|window| total += self.ways(window, &mut sums, &mut next));
+        }
         total
     }
 
@@ -191,17 +214,17 @@ pub fn all(pattern: &Pattern, text: &[u16], list: &mut [u16]) -> Option<u64> {
     }
     let mut table = vec![vec![NONE; text.len() + 1]; pattern.count];
     let mut written = 0;
-    let mut put = |window: &Window, to: usize| {
+    let put = |window: &Window| {
         input.tabulate(window, &mut table);
         let (slots, table, start) = (input.slots, &table, window.start);
         let mut walk = Walk { slots, table, start, row: [0; 16], list: &mut *list, written };
-        walk.go(0, 0, to);
+        walk.go(0, 0, window.widths[0] - 1);
         written = walk.written;
     };
     if input.unbound() {
-        put(&input.whole(), text.len());
+        input.each_sentence(put);
     } else {
-        input.each_window(|window| put(window, 0));
+        input.each_start(put);
     }
     Some(total as u64)
 }

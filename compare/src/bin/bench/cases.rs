@@ -133,20 +133,33 @@ fn cross(call: Call, kinds: &[Kind], shapes: &[(usize, u16)]) -> Vec<Case> {
 /// The cases of the table, in its order.
 pub fn cases() -> Vec<Case> {
     let kinds = [Kind::Random, Kind::Zipf, Kind::Equal];
-    let never = |kind, slots, high, call| Case { kind, slots, high, spans: Spans::Loose, call };
+    let loose = |kind, slots, high, call| Case { kind, slots, high, spans: Spans::Loose, call };
     let mut cases = cross(Call::Front, &kinds, &[(2, 3), (8, 3), (16, 3), (4, 63), (16, 63)]);
     for kind in [Kind::Absent, Kind::OutOfReach] {
-        cases.push(never(kind, 4, 3, Call::Front));
-        cases.push(never(kind, 16, 63, Call::Front));
+        cases.push(loose(kind, 4, 3, Call::Front));
+        cases.push(loose(kind, 16, 63, Call::Front));
     }
     cases.extend(cross(Call::Back, &kinds, &[(8, 3), (16, 63)]));
-    cases.push(never(Kind::OutOfReach, 16, 63, Call::Back));
+    cases.push(loose(Kind::OutOfReach, 16, 63, Call::Back));
     cases.extend(cross(Call::Count, &kinds, &[(8, 3)]));
     cases.extend(cross(Call::Tally, &kinds, &[(2, 3), (8, 3), (16, 63)]));
-    cases.push(never(Kind::Absent, 16, 63, Call::Tally));
-    cases.push(Case { spans: Spans::Nearly, ..never(Kind::Equal, 16, 63, Call::Tally) });
+    cases.push(loose(Kind::Absent, 16, 63, Call::Tally));
+    cases.push(Case { spans: Spans::Nearly, ..loose(Kind::Equal, 16, 63, Call::Tally) });
     cases.extend(cross(Call::All, &kinds, &[(4, 3), (2, 63)]));
     cases.extend(cross(Call::All, &[Kind::Random], &[(16, 3)]));
-    cases.push(never(Kind::Absent, 16, 63, Call::All));
+    cases.push(loose(Kind::Absent, 16, 63, Call::All));
+    let sentences = [Kind::Sentences];
+    cases.extend(cross(Call::Front, &sentences, &[(8, 3), (16, 63)]));
+    cases.push(loose(Kind::Sentences, 8, 3, Call::Back));
+    cases.push(loose(Kind::Sentences, 16, 63, Call::Back));
+    cases.push(loose(Kind::Sentences, 8, 3, Call::Count));
+    cases.extend(cross(Call::Tally, &sentences, &[(8, 3)]));
+    cases.push(Case { spans: Spans::Tight, ..loose(Kind::Sentences, 4, 63, Call::Tally) });
+    cases.extend(cross(Call::All, &sentences, &[(4, 3)]));
+    for call in [Call::Forward, Call::Backward] {
+        for kind in [Kind::Random, Kind::Zipf, Kind::Equal, Kind::Sentences] {
+            cases.push(loose(kind, 4, 3, call));
+        }
+    }
     cases
 }

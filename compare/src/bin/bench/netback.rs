@@ -1,4 +1,6 @@
 //! NetBack: nonoverlapping matching on a nettree, by the leftmost child with backtracking (Wu et al., 2021).
+//!
+//! It knows of no sentence ends: in a text that has some its rows may go past them.
 
 use crate::clock::cpu_ms;
 use compare::layout::{Pattern, Slot};

@@ -8,6 +8,9 @@ use std::fmt;
 /// How many words a text has, if nothing else is said.
 pub const WORDS: usize = 20_000;
 
+/// In a text with sentence ends, about one place in so many is one.
+const SENTENCE: usize = 20;
+
 /// How many words the Zipf-like text draws from.
 const VOCABULARY: usize = 2_000;
 
@@ -24,6 +27,8 @@ pub enum Kind {
     Absent,
     /// One word over and over; the gaps do not reach as far as the least span.
     OutOfReach,
+    /// Random over four words, with sentence ends; each slot takes one of the words.
+    Sentences,
 }
 
 /// What the span limits are.
@@ -45,6 +50,7 @@ impl fmt::Display for Kind {
             Kind::Equal => "all equal",
             Kind::Absent => "never: word",
             Kind::OutOfReach => "never: span",
+            Kind::Sentences => "sentences",
         })
     }
 }
@@ -56,13 +62,18 @@ fn zipf(rng: &mut Rng, words: usize) -> Vec<u16> {
         sums.push(sums[k - 1] + 1_000_000 / k);
     }
     let draw = |_| {
-        if rng.once_in(20) {
+        if rng.once_in(SENTENCE) {
             return 0;
         }
         let drawn = rng.within(0, sums[VOCABULARY] - 1);
         sums.partition_point(|&sum| sum <= drawn) as u16
     };
     (0..words).map(draw).collect()
+}
+
+/// The text of four words with sentence ends.
+fn sentences(rng: &mut Rng, words: usize) -> Vec<u16> {
+    (0..words).map(|_| if rng.once_in(SENTENCE) { 0 } else { rng.word(1, 4) }).collect()
 }
 
 /// A text of that kind.
@@ -72,6 +83,7 @@ pub fn text(kind: Kind, words: usize) -> Vec<u16> {
         Kind::Random | Kind::Absent => (0..words).map(|_| rng.word(1, 4)).collect(),
         Kind::Zipf => zipf(&mut rng, words),
         Kind::Equal | Kind::OutOfReach => vec![7; words],
+        Kind::Sentences => sentences(&mut rng, words),
     }
 }
 
@@ -80,7 +92,7 @@ fn slot_words(kind: Kind, slots: usize, j: usize) -> Vec<u16> {
     let k = j as u16;
     match kind {
         Kind::Absent if j + 1 == slots => vec![5],
-        Kind::Random | Kind::Absent => vec![1 + k % 4],
+        Kind::Random | Kind::Absent | Kind::Sentences => vec![1 + k % 4],
         Kind::Zipf => vec![1 + k % 3, 4 + k % 5],
         Kind::Equal | Kind::OutOfReach => vec![7],
     }

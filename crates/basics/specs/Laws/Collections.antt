@@ -160,3 +160,9 @@ module _ {A B : Type 0} (h : A → B) where
   pub map-pairwise : {R : A → A → Type 0} {S : B → B → Type 0} → ((x y : A) → R x y → S (h x) (h y)) → {xs : List A} → Pairwise R xs → Pairwise S (map h xs)
   map-pairwise f none = none
   map-pairwise f (more {x = x} e p) = more (map-every (f x) e) (map-pairwise f p)
+
+  -- at an index
+  pub map-at : (xs : List A) (d : A) (e : B) (k : ℕ) → k < length xs → getD (map h xs) k e ≡ h (getD xs k d)
+  map-at [] d e k l = absurd (omega arith)
+  map-at (x ∷ xs) d e zero l = refl
+  map-at (x ∷ xs) d e (suc k) l = map-at xs d e k (omega arith)

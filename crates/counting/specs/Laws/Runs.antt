@@ -22,6 +22,15 @@ gather-split (suc a) b (suc k) g x y e d =
     ap (λ (R : List (List ℕ)). g x ++ R) (gather-split a b k g (suc x) y (omega arith) (omega arith))
     ∙ sym (append-assoc (g x) (gather g (places (suc x) a)) (gather g (places y b)))
 
+pub gather-same : (n : ℕ) (g h : ℕ → List (List ℕ)) (x y : ℕ) → ((k : ℕ) → k < n → g (x + k) ≡ h (y + k)) → gather g (places x n) ≡ gather h (places y n)
+unfolding gather places
+gather-same zero g h x y e = refl
+gather-same (suc n) g h x y e =
+    let a : x + 0 ≡ x = omega arith in
+    let b : y + 0 ≡ y = omega arith in
+    let first : g x ≡ h y = rw (a, b) at (e 0 (omega arith)) in
+    rw (first, gather-same n g h (suc x) (suc y) (λ k l. let c : suc x + k ≡ x + suc k = omega arith in let d : suc y + k ≡ y + suc k = omega arith in rw (c, d) (e (suc k) (omega arith))))
+
 gather-none : (n : ℕ) (g : ℕ → List (List ℕ)) (x : ℕ) → ((q : ℕ) → x ≤ q → q < x + n → g q ≡ []) → gather g (places x n) ≡ []
 unfolding gather places
 gather-none zero g x h = refl

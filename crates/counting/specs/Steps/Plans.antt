@@ -15,6 +15,7 @@ use Rattle.counting.specs.declared.gaps.Outline.{Outline}
 use Rattle.counting.specs.declared.window.Window.{Window}
 use Rattle.counting.specs.Steps.Inputs.{Input}
 use Rattle.counting.specs.Steps.Fits.{Fitted}
+use Rattle.counting.specs.Steps.Sentences.{Horizons}
 
 -- the gap before a slot at its widest, or at its least
 abbrev pub bound : Bool → Slot → ℕ
@@ -49,15 +50,17 @@ pub record Handed (f : Pattern) (v : View) (reach : ℕ) (low high T : List ℕ)
 
 -- ---- where a function is handed the numbers alone, of some pattern and some view
 
--- some view of n places, by its table
-pub record Known (f : Pattern) (n : ℕ) (T : List ℕ) : Type 0 where
+-- some view of n places, by its tables of fits and of horizons
+pub record Known (f : Pattern) (n : ℕ) (T E : List ℕ) : Type 0 where
   pub fits : ℕ → ℕ → Bool
-  pub input : Input f (record { places = n; fits = fits })
-  pub table : Fitted f (record { places = n; fits = fits }) T
+  pub ends : ℕ → Bool
+  pub input : Input f (record { places = n; fits = fits; ends = ends })
+  pub table : Fitted f (record { places = n; fits = fits; ends = ends }) T
+  pub horizons : Horizons (record { places = n; fits = fits; ends = ends }) E
 
 -- that view
-abbrev pub knownView : {f : Pattern} {n : ℕ} {T : List ℕ} → Known f n T → View
-knownView {n = n} k = record { places = n; fits = k .fits }
+abbrev pub knownView : {f : Pattern} {n : ℕ} {T E : List ℕ} → Known f n T E → View
+knownView {n = n} k = record { places = n; fits = k .fits; ends = k .ends }
 
 -- some pattern of m slots, too
 pub record Plan (m n reach : ℕ) (low high T : List ℕ) : Type 0 where
@@ -65,7 +68,8 @@ pub record Plan (m n reach : ℕ) (low high T : List ℕ) : Type 0 where
   pub least : ℕ
   pub most : ℕ
   pub fits : ℕ → ℕ → Bool
-  pub handed : Handed (record { slots = slots; count = m; least = least; most = most }) (record { places = n; fits = fits }) reach low high T
+  pub ends : ℕ → Bool
+  pub handed : Handed (record { slots = slots; count = m; least = least; most = most }) (record { places = n; fits = fits; ends = ends }) reach low high T
 
 module _ {m n reach : ℕ} {low high T : List ℕ} (g : Plan m n reach low high T) where
   -- that pattern
@@ -74,13 +78,18 @@ module _ {m n reach : ℕ} {low high T : List ℕ} (g : Plan m n reach low high 
 
   -- that view
   abbrev pub planView : View
-  planView = record { places = n; fits = g .fits }
+  planView = record { places = n; fits = g .fits; ends = g .ends }
 
   -- all occurrences of the pattern in the view
   abbrev pub planRows : List (List ℕ)
   planRows = occurrencesIn planPattern planView
 
--- and the window lies in some number of places
+-- a plan, with the table of horizons
+pub record Parted (m n reach : ℕ) (low high T E : List ℕ) : Type 0 where
+  pub plan : Plan m n reach low high T
+  pub horizons : Horizons (planView plan) E
+
+-- a plan, and the window lies in some number of places
 pub record Run (m reach : ℕ) (low high T : List ℕ) (w : Window) : Type 0 where
   pub n : ℕ
   pub plan : Plan m n reach low high T

@@ -1,4 +1,4 @@
--- `excerpts::is_occurrence` meets its contract: the conditions of Definition 3 are decided one after the other.
+-- `excerpts::is_occurrence` meets its contract: the conditions of an occurrence are decided one after the other.
 use native.Mathlib.Omega.{arith}
 use Prim.Native.Nat.{ℕ, _-_}
 use mathlib.Core.List.{List}
@@ -9,8 +9,8 @@ use Rattle.pattern.specs.declared.refusal.Verdict.the-variants.{Accepted}
 use Rattle.matching.specs.Answers.{rowVerdict}
 use Rattle.matching.specs.Occurrence.{at}
 use Rattle.matching.specs.Laws.Ready.{RowAccepted, row-accepted}
-use Rattle.excerpts.specs.Steps.Conditions.{Decides, SpanFits}
-use Rattle.excerpts.proofs.Testing.{sized, span-same, no-words, no-gaps, no-span, all-fit}
+use Rattle.excerpts.specs.Steps.Conditions.{Decides, SpanFits, SentenceFits, WordsFit}
+use Rattle.excerpts.proofs.Testing.{sized, span-same, sentence-same, no-words, no-gaps, no-span, no-sentence, all-fit}
 use borrow.Author.Needs.{needs}
 use Rattle.excerpts.proofs.is_occurrence.Statement.{statement}
 use Rattle.excerpts.proofs.is_occurrence.Tie as tie
@@ -53,6 +53,12 @@ passed-at c = accepted-at (words-fit-at c)
 abbrev tested-at : tie.After-span-fits → tie.After-enum-told
 tested-at c = passed-at (gaps-fit-at (first-at c))
 
+abbrev span-at : tie.Else3 → tie.After-span-fits
+span-at c = c .before
+
+abbrev span-fits-at : tie.After-sentence-fits → tie.Else3
+span-fits-at c = c .before
+
 -- ---- what is accepted: the pattern, the text and the row
 
 abbrev f : tie.After-enum-told → Pattern
@@ -70,12 +76,24 @@ verdict-is c = sym (verdict-at c .row-verdict .ensures) ∙ c .enum-told .given 
 accepted : (c : tie.After-enum-told) → RowAccepted (f c) (t c) (r c)
 accepted c = row-accepted (verdict-is c)
 
--- what the last test decides
+-- ---- what the tests of the words, the span and the sentence decide
+
+words : (c : tie.Else1) → WordsFit (f (accepted-at c)) (t (accepted-at c)) (r (accepted-at c))
+words c = words-at c .words-fit .ensures .yes (not-false _ (c .if1 .left))
+
 abbrev Span : tie.After-enum-told → Type 0
 Span c = SpanFits (at (r c) 0) (at (r c) (f c .count - 1)) (f c .least) (f c .most)
 
 span : (c : tie.After-span-fits) → Decides (c .span-fits .result) (Span (tested-at c))
 span c = span-same (first-at c .widen .ensures .0) (last-at c .widen2 .ensures .0) (least-at c .widen3 .ensures .0) (c .before .widen4 .ensures .0) (c .span-fits .ensures)
+
+abbrev Sentence : tie.After-enum-told → Type 0
+Sentence c = SentenceFits (t c) (at (r c) 0) (at (r c) (f c .count - 1))
+
+sentence : (c : tie.After-sentence-fits) → Decides (c .sentence-fits .result) (Sentence (tested-at (span-at (span-fits-at c))))
+sentence c =
+    let s = span-at (span-fits-at c) in
+    sentence-same (t (tested-at s)) (first-at s .widen .ensures .0) (last-at s .widen2 .ensures .0) (c .sentence-fits .ensures)
 
 -- ----
 
@@ -107,8 +125,8 @@ returns-3 c =
     let a = accepted-at (c .before .before) in
     simp (verdict-is a, no-gaps (f a) (t a) (r a) (c .before .gaps-fit .ensures .no (not-true _ (c .if2 .taken))))
 
-sub-last : tie.Need-sub-last
-sub-last c = omega (arith, accepted (passed-at (c .before)) .ready .some)
+sub-j : tie.Need-sub-j
+sub-j c = omega (arith, accepted (passed-at (c .before)) .ready .some)
 
 shared-slice-read-widen : tie.Need-shared-slice-read-widen
 shared-slice-read-widen c = let a = accepted (passed-at (c .before .before)) in omega (arith, a .ready .some, a .size)
@@ -139,14 +157,30 @@ returns-4 c =
     let a = tested-at (c .before) in
     simp (verdict-is a, no-span (f a) (t a) (r a) (span (c .before) .no (not-true _ (c .if3 .taken))))
 
+sentence-fits-requires : tie.Need-sentence-fits-requires
+sentence-fits-requires c κs =
+    let s = span-at c in
+    let e = words-fit-at (gaps-fit-at (first-at s)) in
+    let a = accepted (accepted-at e) in
+    let first = words e 0 (a .ready .some) in
+    let last = words e (f (accepted-at e) .count - 1) (omega (arith, a .ready .some)) in
+    let first-is = first-at s .widen .ensures .0 in
+    (omega (arith, first .low, first-is), omega (arith, first .high, first-is), omega (arith, last .high, last-at s .widen2 .ensures .0))
+
 returns-5 : tie.Need-returns-5
 returns-5 c =
-    let d = gaps-fit-at (first-at (c .before)) in
+    let a = tested-at (span-at (span-fits-at (c .before))) in
+    simp (verdict-is a, no-sentence (f a) (t a) (r a) (sentence (c .before) .no (not-true _ (c .if4 .taken))))
+
+returns-6 : tie.Need-returns-6
+returns-6 c =
+    let s = span-fits-at (c .before) in
+    let d = gaps-fit-at (first-at (span-at s)) in
     let e = words-fit-at d in
     let a = accepted-at e in
-    let words = words-at e .words-fit .ensures .yes (not-false _ (e .if1 .left)) in
     let gaps = gaps-at d .gaps-fit .ensures .yes (not-false _ (d .if2 .left)) in
-    simp (verdict-is a, all-fit (f a) (t a) (r a) (accepted a .size) words gaps (span (c .before) .yes (not-false _ (c .if3 .left))))
+    let spans = span (span-at s) .yes (not-false _ (s .if3 .left)) in
+    simp (verdict-is a, all-fit (f a) (t a) (r a) (accepted a .size) (words e) gaps spans (sentence (c .before) .yes (not-false _ (c .if4 .left))))
 
 pub is-occurrence-spec : {M : Type 1} → statement M
 is-occurrence-spec =
@@ -160,7 +194,7 @@ is-occurrence-spec =
     returns-2
     gaps-fit-requires
     returns-3
-    sub-last
+    sub-j
     shared-slice-read-widen
     widen-requires
     mul-widen
@@ -170,4 +204,6 @@ is-occurrence-spec =
     widen-requires-4
     span-fits-requires
     returns-4
-    returns-5)
+    sentence-fits-requires
+    returns-5
+    returns-6)

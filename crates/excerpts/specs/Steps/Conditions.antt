@@ -1,4 +1,4 @@
--- What the steps of the test come to: each decides one condition of Definition 3.
+-- What the steps of the test come to: each decides one condition of an occurrence.
 use Prim.Native.Nat.{ℕ, _+_, _-_, _≤_, _<_}
 use mathlib.Core.Bool.{Bool, true, false}
 use mathlib.Core.List.{List}
@@ -7,7 +7,7 @@ use lib.ListN.{length}
 use Rattle.pattern.specs.declared.slot.Slot.{Slot}
 use Rattle.pattern.specs.declared.Pattern.{Pattern}
 use Rattle.pattern.specs.Patterns.{slotAt}
-use Rattle.matching.specs.Occurrence.{at, takesAt}
+use Rattle.matching.specs.Occurrence.{at, takesAt, endsAt, Unbroken}
 
 -- the test says whether P holds
 pub record Decides (b : Bool) (P : Type 0) : Type 0 where
@@ -34,6 +34,10 @@ pub record GapFits (a b low high : ℕ) : Type 0 where
 pub record SpanFits (first last least most : ℕ) : Type 0 where
   pub low : first + least ≤ last + 1
   pub high : last + 1 ≤ first + most
+
+-- no sentence of the text ends strictly between the first place and the last
+abbrev pub SentenceFits : List ℕ → ℕ → ℕ → Type 0
+SentenceFits t first last = Unbroken (endsAt t) first last
 
 -- each place of the row fits its slot
 abbrev pub WordsFit : Pattern → List ℕ → List ℕ → Type 0

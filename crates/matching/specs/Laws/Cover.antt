@@ -8,12 +8,14 @@ use lib.ListN.{length}
 use lib.Dec.{ltb}
 use borrow.Author.Tests.{ltb-true, lt-ltb}
 use Rattle.pattern.specs.declared.Pattern.{Pattern}
-use Rattle.matching.specs.Occurrence.{View, OccursIn, at}
+use Rattle.matching.specs.Occurrence.{View, Unbroken, OccursIn, at}
 use Rattle.pattern.specs.Patterns.{slotAt}
-use Rattle.matching.specs.Spans.{distance, near, far, width, limit, least}
+use Rattle.matching.specs.Spans.{distance, near, far, width, horizon, limit, least}
 use Rattle.matching.specs.Branches.{stands, ways}
 use Rattle.matching.specs.Laws.Branches.{Part, part-size, part-stands, part-gap, part-last, part-of, Covers, tree, forest, occurrences-forest, count-forest, starting-tree, count-starting, count-places}
 use Rattle.basics.specs.Sums.{total}
+use Rattle.matching.specs.Laws.Rows.{occurs-between}
+use Rattle.matching.specs.Laws.Sentences.{horizon-past, horizon-inside, horizon-unbroken, horizon-reached}
 use Rattle.matching.specs.Occurrences.{occurrencesIn, startingIn}
 
 module _ (f : Pattern) where
@@ -30,11 +32,6 @@ module _ (f : Pattern) where
   unfolding distance
   gaps-far r k g zero h = omega arith
   gaps-far r k g (suc i) h = omega (arith, gaps-far r k g i (omega arith), g i (omega arith))
-
-  gaps-rise : (r : List ℕ) (k : ℕ) → Gaps r k → (d i : ℕ) → i + d ≤ k → at r i ≤ at r (i + d)
-  gaps-rise r k g zero i h = let e : i + 0 ≡ i = omega arith in rw e (omega arith)
-  gaps-rise r k g (suc d) i h = let e : i + suc d ≡ suc (i + d) = omega arith in
-      rw e (omega (arith, gaps-rise r k g d i (omega arith), g (i + d) (omega arith)))
 
   module _ (v : View) (some : 1 ≤ f .count) where
     part-gaps : {stop : ℕ → ℕ} {from : ℕ} {r : List ℕ} → Part f v stop from (f .count - 1) 0 r → Gaps r (f .count - 1)
@@ -64,9 +61,15 @@ module _ (f : Pattern) where
     occurs-gaps : {r : List ℕ} → OccursIn f v r → Gaps r (f .count - 1)
     occurs-gaps o i h = let d : suc i ≡ i + 1 = omega arith in rw d (o .gap i (omega arith))
 
+    -- it stands no further than the horizon of its first place
+    occurs-horizon : {r : List ℕ} → OccursIn f v r → (i : ℕ) → i ≤ f .count - 1 → at r i ≤ horizon v (at r 0)
+    occurs-horizon o i h =
+        let last = horizon-reached v (o .inside 0 some .1) (o .inside (f .count - 1) (omega arith) .1) (o .sentence) in
+        omega (arith, occurs-between o i (omega arith))
+
     back : {stop : ℕ → ℕ} {from : ℕ} (r : List ℕ) → Part f v stop from (f .count - 1) 0 r → 1 ≤ at r 0 → ((i : ℕ) → stop i ≤ v .places + 1)
-        → (at r 0 + f .least ≤ at r (f .count - 1) + 1) × (at r (f .count - 1) + 1 ≤ at r 0 + f .most) → OccursIn f v r
-    back {stop} {from} r q one short span =
+        → (at r 0 + f .least ≤ at r (f .count - 1) + 1) × (at r (f .count - 1) + 1 ≤ at r 0 + f .most) → Unbroken (v .ends) (at r 0) (at r (f .count - 1)) → OccursIn f v r
+    back {stop} {from} r q one short span sentence =
         let g = part-gaps q in
         let w = part-below q in
         record {
@@ -75,6 +78,7 @@ module _ (f : Pattern) where
           fit = λ j h. w j (omega arith) .1;
           gap = λ j h. let e : j + 1 ≡ suc j = omega arith in rw e (g j (omega arith));
           span = span;
+          sentence = sentence;
         }
 
     -- any pattern: each first place with its own stop
@@ -83,22 +87,26 @@ module _ (f : Pattern) where
     covers-each h = record {
       into = λ r o. let g = occurs-gaps o in let s = o .span in
           into (limit f v (at r 0)) (least f (at r 0)) r o
-          (λ i l. let d : i + (f .count - 1 - i) ≡ f .count - 1 = omega arith in
-          omega (arith, o .inside i (omega arith), rw d at (gaps-rise r (f .count - 1) g (f .count - 1 - i) i (omega arith)), gaps-far r (f .count - 1) g (f .count - 1) (omega arith), gaps-far r (f .count - 1) g i l))
+          (λ i l. omega (arith, occurs-horizon o i l, occurs-between o i (omega arith), gaps-far r (f .count - 1) g (f .count - 1) (omega arith), gaps-far r (f .count - 1) g i l))
           (omega arith);
       back = λ r q one inside.
           let last = part-last f v (limit f v (at r 0)) (least f (at r 0)) q in
           let below = part-below q (f .count - 1) (omega arith) .0 in
-          back r q one (λ i. omega arith) (omega arith, omega arith);
+          let near = horizon-past v inside in
+          let end = horizon-inside v inside in
+          back r q one (λ i. omega arith) (omega arith, omega arith) (horizon-unbroken v inside (omega arith));
     }
 
-    -- a pattern whose span limits say nothing: one stop
-    pub covers-all : f .least ≤ near f (f .count - 1) + 1 → min (far f (f .count - 1) + 1) (v .places) ≤ f .most → Covers f v (λ p j. v .places + 1) (λ p. 0)
+    -- a pattern whose span limits say nothing: the sentence's end alone stops it
+    pub covers-all : f .least ≤ near f (f .count - 1) + 1 → min (far f (f .count - 1) + 1) (v .places) ≤ f .most → Covers f v (λ p j. horizon v p + 1) (λ p. 0)
     covers-all l m = record {
-      into = λ r o. into (λ j. v .places + 1) 0 r o (λ i h. omega (arith, o .inside i (omega arith))) (omega arith);
+      into = λ r o. into (λ j. horizon v (at r 0) + 1) 0 r o (λ i h. omega (arith, occurs-horizon o i h)) (omega arith);
       back = λ r q one inside. let g = part-gaps q in
+          let end = horizon-inside v inside in
+          let below = part-below q (f .count - 1) (omega arith) .0 in
           back r q one (λ i. omega arith)
-          (omega (arith, gaps-near r (f .count - 1) g (f .count - 1) (omega arith)), omega (arith, gaps-far r (f .count - 1) g (f .count - 1) (omega arith), part-below q (f .count - 1) (omega arith) .0));
+          (omega (arith, gaps-near r (f .count - 1) g (f .count - 1) (omega arith)), omega (arith, gaps-far r (f .count - 1) g (f .count - 1) (omega arith)))
+          (horizon-unbroken v inside (omega arith));
     }
 
     -- ---- all occurrences, and how many start at each place
@@ -117,9 +125,9 @@ module _ (f : Pattern) where
       pub starting-each : 1 ≤ f .least → startingIn f v p ≡ tree f v (limit f v) (least f) p
       starting-each h = starting-tree f v (limit f v) (least f) (covers-each h) p one inside
 
+      pub starting-all : f .least ≤ near f (f .count - 1) + 1 → min (far f (f .count - 1) + 1) (v .places) ≤ f .most
+          → startingIn f v p ≡ tree f v (λ p j. horizon v p + 1) (λ p. 0) p
+      starting-all l m = starting-tree f v (λ p j. horizon v p + 1) (λ p. 0) (covers-all l m) p one inside
+
       pub count-each : 1 ≤ f .least → length (startingIn f v p) ≡ ways f v (limit f v p) (least f p) (f .count - 1) 0 p
       count-each h = count-starting f v (limit f v) (least f) (covers-each h) p one inside
-
-      pub count-all : f .least ≤ near f (f .count - 1) + 1 → min (far f (f .count - 1) + 1) (v .places) ≤ f .most
-          → length (startingIn f v p) ≡ ways f v (λ j. v .places + 1) 0 (f .count - 1) 0 p
-      count-all l m = count-starting f v (λ p j. v .places + 1) (λ p. 0) (covers-all l m) p one inside

@@ -4,7 +4,7 @@ use native.Mathlib.Decide.{ℕ-discrete, decLt}
 use native.Mathlib.Omega.{arith}
 use mathlib.Core.Path.{_≡_}
 use mathlib.Core.List.{List}
-use mathlib.Core.Bool.{true}
+use mathlib.Core.Bool.{true, false}
 use lib.ListN.{length}
 use Rattle.pattern.specs.declared.Pattern.{Pattern}
 use Rattle.matching.specs.Occurrence.{View, OccursIn, at}
@@ -43,8 +43,8 @@ span-sublattice i j least most = record {
   joins = λ r s p q. omega (arith, at-join r s i, at-join r s j);
 }
 
--- on the places strictly between those at two slots (ready for a constraint on the words that an occurrence passes over)
-pub between-sublattice : (P : ℕ → Type 0) (i j : ℕ) → Sublattice (λ r. (p : ℕ) → at r i < p → p < at r j → P p)
+-- on the places strictly between those at two slots
+between-sublattice : (P : ℕ → Type 0) (i j : ℕ) → Sublattice (λ r. (p : ℕ) → at r i < p → p < at r j → P p)
 between-sublattice P i j = record {
   meets = λ r s c d p l h. elim (decLt (at r i) p) [
     | yes k ↦ c p k (omega (arith, at-meet r s j))
@@ -68,6 +68,7 @@ module _ (f : Pattern) (v : View) where
     fit = λ j h. closed _ (place-sublattice (λ p. v .fits j p ≡ true) j) r s (o .fit j h) (o′ .fit j h);
     gap = λ j h. closed _ (gap-sublattice j (j + 1) (slotAt f (j + 1) .low) (slotAt f (j + 1) .high)) r s (o .gap j h) (o′ .gap j h);
     span = closed _ (span-sublattice 0 (f .count - 1) (f .least) (f .most)) r s (o .span) (o′ .span);
+    sentence = closed _ (between-sublattice (λ p. v .ends p ≡ false) 0 (f .count - 1)) r s (o .sentence) (o′ .sentence);
   }
 
   pub occurs-sublattice : Sublattice (OccursIn f v)

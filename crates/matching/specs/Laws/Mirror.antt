@@ -1,16 +1,16 @@
 -- A pattern and a view read from the end. What is nearest there is nearest from the end here, so that nothing is proved twice.
-use Prim.Native.Nat.{ℕ, zero, suc, _+_, _-_, _≤_, _<_}
+use Prim.Native.Nat.{ℕ, _+_, _-_, _≤_, _<_}
 use native.Mathlib.Omega.{arith}
 use mathlib.Core.Path.{_≡_, refl, sym, ap, _∙_}
 use mathlib.Core.Bool.{Bool, true, false}
-use mathlib.Core.List.{List, [], _∷_, map, reverse}
+use mathlib.Core.List.{List, map, reverse}
 use lib.ListN.{length, length-map, length-reverse}
 use Rattle.pattern.specs.declared.Pattern.{Pattern}
 use Rattle.pattern.specs.Patterns.{slotAt}
 use Rattle.matching.specs.Occurrence.{View, OccursIn, at}
 use Rattle.matching.specs.Rows.{level, Before, NotAfter, After, NotBefore}
 use Rattle.matching.specs.Steps.Turning.{seen, flip}
-use Rattle.basics.specs.Laws.Collections.{getD-reverse}
+use Rattle.basics.specs.Laws.Collections.{getD-reverse, map-at}
 use Rattle.matching.specs.Laws.Rows.{at-level}
 use Rattle.matching.specs.Searches.{Nearest}
 use Rattle.matching.specs.Laws.Greedy.{Greedy, done, next, greedy-from}
@@ -28,15 +28,10 @@ length-flip n r = length-map (reverse r) (λ p. n + 1 - p) ∙ length-reverse r
 pub record Opposite (m n : ℕ) (a b : List ℕ) : Type 0 where
   pub turn : (i j : ℕ) → i + j + 1 ≡ m → at b j ≡ n + 1 - at a i
 
-getD-past : (n : ℕ) (l : List ℕ) (j : ℕ) → j < length l → at (map (λ p. n + 1 - p) l) j ≡ n + 1 - at l j
-getD-past n [] j h = absurd (omega arith)
-getD-past n (p ∷ l) zero h = refl
-getD-past n (p ∷ l) (suc j) h = getD-past n l j (omega arith)
-
 pub flip-opposite : (n : ℕ) (r : List ℕ) → Opposite (length r) n r (flip n r)
 unfolding flip
 flip-opposite n r = record {
-  turn = λ i j e. getD-past n (reverse r) j (omega (arith, length-reverse r)) ∙ ap (λ (x : ℕ). n + 1 - x) (getD-reverse r 0 i j e);
+  turn = λ i j e. map-at (λ p. n + 1 - p) (reverse r) 0 0 j (omega (arith, length-reverse r)) ∙ ap (λ (x : ℕ). n + 1 - x) (getD-reverse r 0 i j e);
 }
 
 -- the pattern g is f with its slots in reverse, each with the gap after it, and the view u is v from its end
@@ -48,6 +43,7 @@ pub record Facing (f : Pattern) (v : View) (g : Pattern) (u : View) : Type 0 whe
   pub high : (i j : ℕ) → i + j ≡ f .count → 0 < i → 0 < j → slotAt g j .high ≡ slotAt f i .high
   pub size : u .places ≡ v .places
   pub fits : (i j : ℕ) → i + j + 1 ≡ f .count → (p q : ℕ) → p + q ≡ v .places + 1 → 1 ≤ p → 1 ≤ q → u .fits j p ≡ v .fits i q
+  pub ends : (p q : ℕ) → p + q ≡ v .places + 1 → 1 ≤ p → 1 ≤ q → u .ends p ≡ v .ends q
 
 module _ {f : Pattern} {v : View} {g : Pattern} {u : View} (F : Facing f v g u) where
   pub facing-back : Facing g u f v
@@ -59,6 +55,7 @@ module _ {f : Pattern} {v : View} {g : Pattern} {u : View} (F : Facing f v g u) 
     high = λ i j e h k. sym (F .high j i (omega (arith, F .count)) k h);
     size = sym (F .size);
     fits = λ i j e p q d h k. sym (F .fits j i (omega (arith, F .count)) q p (omega (arith, F .size)) k h);
+    ends = λ p q d h k. sym (F .ends q p (omega (arith, F .size)) k h);
   }
 
   -- what occurs here occurs there
@@ -93,6 +90,14 @@ module _ {f : Pattern} {v : View} {g : Pattern} {u : View} (F : Facing f v g u) 
           let e : i + 0 + 1 ≡ m = omega arith in
           let e' : 0 + i + 1 ≡ m = omega arith in
           rw c (omega (arith, turned i 0 e, turned 0 i e', O .span, O .inside 0 some, O .inside i (omega arith), F .least, F .most));
+      sentence = λ x a b. let i = m - 1 in
+          let c : g .count - 1 ≡ m - 1 = omega (arith, F .count) in
+          let e : i + 0 + 1 ≡ m = omega arith in
+          let e' : 0 + i + 1 ≡ m = omega arith in
+          let b' = rw c at b in
+          let y = n + 1 - x in
+          F .ends x y (omega (arith, turned i 0 e, turned 0 i e', O .inside 0 some, O .inside i (omega arith))) (omega arith) (omega (arith, turned i 0 e, turned 0 i e', O .inside 0 some, O .inside i (omega arith)))
+          ∙ O .sentence y (omega (arith, turned i 0 e, turned 0 i e', O .inside 0 some, O .inside i (omega arith))) (omega (arith, turned i 0 e, turned 0 i e', O .inside 0 some, O .inside i (omega arith)));
     }
 
 -- ---- the nearest from here and from there

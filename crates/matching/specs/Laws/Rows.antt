@@ -1,15 +1,32 @@
 -- Laws of the rows' order and of the lattice of the pointwise minimum and maximum.
-use Prim.Native.Nat.{ℕ, zero, suc, _<_, min, max}
+use Prim.Native.Nat.{ℕ, zero, suc, _+_, _-_, _≤_, _<_, min, max}
 use native.Mathlib.Omega.{arith}
 use mathlib.Core.Path.{_≡_, refl}
 use mathlib.Core.List.{List, [], _∷_}
 use lib.ListN.{length, getD-replicate}
-use Rattle.matching.specs.Occurrence.{at, Apart}
+use Rattle.pattern.specs.declared.Pattern.{Pattern}
+use Rattle.matching.specs.Occurrence.{View, OccursIn, at, Apart}
 use Rattle.matching.specs.Rows.{level, Before, meet, join}
 use Rattle.matching.specs.Laws.Sorting.{Closed, Exchange}
 
 pub at-level : (m p j : ℕ) → j < m → at (level m p) j ≡ p
 at-level m p j h = getD-replicate m j p 0 h
+
+-- ---- a row whose places rise from slot to slot
+
+module _ {m : ℕ} (r : List ℕ) (rise : (j : ℕ) → j + 1 < m → at r j ≤ at r (j + 1)) where
+  rises-by : (d i : ℕ) → i + d < m → at r i ≤ at r (i + d)
+  rises-by zero i h = let e : i + 0 ≡ i = omega arith in rw e (omega arith)
+  rises-by (suc d) i h = let e : i + suc d ≡ i + d + 1 = omega arith in rw e (omega (arith, rises-by d i (omega arith), rise (i + d) (omega arith)))
+
+  pub row-rises : {i j : ℕ} → i ≤ j → j < m → at r i ≤ at r j
+  row-rises {i} {j} l h = let e : i + (j - i) ≡ j = omega arith in rw e at (rises-by (j - i) i (omega arith))
+
+-- the places of an occurrence lie between its first and its last
+pub occurs-between : {f : Pattern} {v : View} {r : List ℕ} → OccursIn f v r → (j : ℕ) → j < f .count → (at r 0 ≤ at r j) × (at r j ≤ at r (f .count - 1))
+occurs-between {r = r} O j h =
+    let rise : (k : ℕ) → k + 1 < _ → at r k ≤ at r (k + 1) = λ k l. omega (arith, O .gap k l) in
+    (row-rises r rise (omega arith) h, row-rises r rise (omega arith) (omega arith))
 
 -- ---- the earlier place, and the later place, at each slot
 

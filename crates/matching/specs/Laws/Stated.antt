@@ -21,10 +21,11 @@ use Rattle.matching.specs.Laws.Tests.{each-same}
 pub record SameView (m : ℕ) (v w : View) : Type 0 where
   pub places : v .places ≡ w .places
   pub fits : (j : ℕ) → j < m → (p : ℕ) → v .fits j p ≡ w .fits j p
+  pub ends : (p : ℕ) → v .ends p ≡ w .ends p
 
 module _ {f g : Pattern} (same : SameStated f g) where
   pub plain-same : (t : List ℕ) → SameView (f .count) (plain f t) (plain g t)
-  plain-same t = record { places = refl; fits = λ j h p. takes-same (same .slot j h) (wordAt t p) }
+  plain-same t = record { places = refl; fits = λ j h p. takes-same (same .slot j h) (wordAt t p); ends = λ p. refl }
 
   module _ {v w : View} (alike : SameView (f .count) v w) where
     pub occurs-same : (r : List ℕ) → occursIn f v r ≡ occursIn g w r
@@ -35,7 +36,8 @@ module _ {f g : Pattern} (same : SameStated f g) where
         (λ j. within (at r j + slotAt f (j + 1) .low + 1) (at r (j + 1)) (at r j + slotAt f (j + 1) .high + 1))
         (λ j. within (at r j + slotAt g (j + 1) .low + 1) (at r (j + 1)) (at r j + slotAt g (j + 1) .high + 1))
         (λ j h. rw (same .slot (j + 1) (omega arith) .low, same .slot (j + 1) (omega arith) .high)) in
-        rw (fits, gaps, same .count, same .least, same .most, alike .places)
+        let ends : v .ends ≡ w .ends = fun-ext (alike .ends) in
+        rw (fits, gaps, ends, same .count, same .least, same .most, alike .places)
 
     pub occurrences-same : occurrencesIn f v ≡ occurrencesIn g w
     unfolding occurrencesIn

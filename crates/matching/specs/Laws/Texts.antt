@@ -3,7 +3,7 @@ use Prim.Native.Nat.{ℕ, _≤_}
 use native.Mathlib.Omega.{arith}
 use mathlib.Core.Path.{_≡_, refl, sym, ap, _∙_}
 use mathlib.Core.List.{List, [], _∷_, reverse}
-use mathlib.Core.Bool.{true, true≢false}
+use mathlib.Core.Bool.{true≢false}
 use lib.ListN.{length}
 use lib.Dec.{lit≤}
 use Rattle.pattern.specs.declared.Pattern.{Pattern}
@@ -25,14 +25,14 @@ use Rattle.basics.specs.Sums.{gather}
 use Rattle.basics.specs.Choice.{only}
 use Rattle.matching.specs.Branches.{stands, branches}
 use Rattle.matching.specs.Laws.Branches.{tree, forest}
-use Rattle.matching.specs.Spans.{distance, width, limit, least}
+use Rattle.matching.specs.Spans.{distance, width, nextEnd, horizon, limit, least}
 use Rattle.matching.specs.Laws.Cover.{occurrences-each}
 use Rattle.matching.specs.Laws.Extremes.{earliest-none, latest-none}
 use Rattle.matching.specs.Laws.Largest.{largest}
 
 -- the lists from the occurrences that were found
 module _ {f : Pattern} {t : List ℕ} {hits : List (List ℕ)} (found : occurrences f t ≡ hits) where
-  results : {front back : List (List ℕ)} {count tally : ℕ}
+  pub results : {front back : List (List ℕ)} {count tally : ℕ}
       → inputVerdict f (length t) ≡ Fine
       → follow (λ marks. earliestOf (f .count) hits marks) (length t) (level (f .count) 0) ≡ front
       → reverse (follow (λ marks. latestOf (f .count) hits marks) (length t) (level (f .count) 65535)) ≡ back
@@ -50,7 +50,7 @@ module _ {f : Pattern} {t : List ℕ} {hits : List (List ℕ)} (found : occurren
       }
 
 hits-one : occurrences pattern-one text-one ≡ (1 ∷ 3 ∷ 5 ∷ []) ∷ (5 ∷ 7 ∷ 8 ∷ []) ∷ (6 ∷ 7 ∷ 8 ∷ []) ∷ []
-unfolding pattern-one text-one patternOf oneWord forest tree gather places branches only stands takes member distance width limit least
+unfolding pattern-one text-one patternOf oneWord forest tree gather places branches only stands takes member distance width nextEnd horizon limit least
 hits-one = occurrences-each pattern-one (plain pattern-one text-one) (lit≤ tt) (lit≤ tt)
 
 one : Results pattern-one text-one
@@ -62,7 +62,7 @@ unfolding pattern-one text-one patternOf oneWord inputVerdict patternVerdict slo
 one = results hits-one refl refl refl refl refl
 
 hits-two : occurrences pattern-two text-one ≡ (1 ∷ 3 ∷ 5 ∷ []) ∷ (5 ∷ 7 ∷ 8 ∷ []) ∷ []
-unfolding pattern-two text-one patternOf oneWord forest tree gather places branches only stands takes member distance width limit least
+unfolding pattern-two text-one patternOf oneWord forest tree gather places branches only stands takes member distance width nextEnd horizon limit least
 hits-two = occurrences-each pattern-two (plain pattern-two text-one) (lit≤ tt) (lit≤ tt)
 
 two : Results pattern-two text-one
@@ -74,7 +74,7 @@ unfolding pattern-two text-one patternOf oneWord inputVerdict patternVerdict slo
 two = results hits-two refl refl refl refl refl
 
 hits-three : occurrences pattern-three text-three ≡ (2 ∷ 3 ∷ 5 ∷ []) ∷ (2 ∷ 4 ∷ 5 ∷ []) ∷ (5 ∷ 6 ∷ 7 ∷ []) ∷ []
-unfolding pattern-three text-three patternOf oneWord forest tree gather places branches only stands takes member distance width limit least
+unfolding pattern-three text-three patternOf oneWord forest tree gather places branches only stands takes member distance width nextEnd horizon limit least
 hits-three = occurrences-each pattern-three (plain pattern-three text-three) (lit≤ tt) (lit≤ tt)
 
 three : Results pattern-three text-three
@@ -86,7 +86,7 @@ unfolding pattern-three text-three patternOf oneWord inputVerdict patternVerdict
 three = results hits-three refl refl refl refl refl
 
 hits-four : occurrences pattern-four text-four ≡ (1 ∷ 3 ∷ 4 ∷ 8 ∷ []) ∷ (4 ∷ 5 ∷ 6 ∷ 8 ∷ []) ∷ (4 ∷ 5 ∷ 6 ∷ 9 ∷ []) ∷ (4 ∷ 5 ∷ 7 ∷ 9 ∷ []) ∷ []
-unfolding pattern-four text-four patternOf oneWord forest tree gather places branches only stands takes member distance width limit least
+unfolding pattern-four text-four patternOf oneWord forest tree gather places branches only stands takes member distance width nextEnd horizon limit least
 hits-four = occurrences-each pattern-four (plain pattern-four text-four) (lit≤ tt) (lit≤ tt)
 
 four : Results pattern-four text-four
@@ -98,7 +98,7 @@ unfolding pattern-four text-four patternOf oneWord inputVerdict patternVerdict s
 four = results hits-four refl refl refl refl refl
 
 hits-five : occurrences pattern-five text-five ≡ (1 ∷ 2 ∷ 5 ∷ 7 ∷ []) ∷ (1 ∷ 4 ∷ 5 ∷ 7 ∷ []) ∷ (3 ∷ 4 ∷ 5 ∷ 7 ∷ []) ∷ (3 ∷ 6 ∷ 8 ∷ 9 ∷ []) ∷ (7 ∷ 10 ∷ 11 ∷ 12 ∷ []) ∷ (9 ∷ 10 ∷ 11 ∷ 12 ∷ []) ∷ (12 ∷ 13 ∷ 15 ∷ 16 ∷ []) ∷ (12 ∷ 14 ∷ 15 ∷ 16 ∷ []) ∷ []
-unfolding pattern-five text-five patternOf oneWord forest tree gather places branches only stands takes member distance width limit least
+unfolding pattern-five text-five patternOf oneWord forest tree gather places branches only stands takes member distance width nextEnd horizon limit least
 hits-five = occurrences-each pattern-five (plain pattern-five text-five) (lit≤ tt) (lit≤ tt)
 
 five : Results pattern-five text-five
@@ -110,7 +110,7 @@ unfolding pattern-five text-five patternOf oneWord inputVerdict patternVerdict s
 five = results hits-five refl refl refl refl refl
 
 hits-six : occurrences pattern-six text-six ≡ (1 ∷ 2 ∷ 4 ∷ []) ∷ (1 ∷ 2 ∷ 6 ∷ []) ∷ (1 ∷ 3 ∷ 6 ∷ []) ∷ (1 ∷ 5 ∷ 8 ∷ []) ∷ (1 ∷ 5 ∷ 9 ∷ []) ∷ []
-unfolding pattern-six text-six patternOf oneWord forest tree gather places branches only stands takes member distance width limit least
+unfolding pattern-six text-six patternOf oneWord forest tree gather places branches only stands takes member distance width nextEnd horizon limit least
 hits-six = occurrences-each pattern-six (plain pattern-six text-six) (lit≤ tt) (lit≤ tt)
 
 six : Results pattern-six text-six
@@ -122,7 +122,7 @@ unfolding pattern-six text-six patternOf oneWord inputVerdict patternVerdict slo
 six = results hits-six refl refl refl refl refl
 
 hits-seven : occurrences pattern-seven text-seven ≡ (2 ∷ 3 ∷ 5 ∷ []) ∷ []
-unfolding pattern-seven text-seven patternOf oneWord forest tree gather places branches only stands takes member distance width limit least
+unfolding pattern-seven text-seven patternOf oneWord forest tree gather places branches only stands takes member distance width nextEnd horizon limit least
 hits-seven = occurrences-each pattern-seven (plain pattern-seven text-seven) (lit≤ tt) (lit≤ tt)
 
 seven : Results pattern-seven text-seven
@@ -134,7 +134,7 @@ unfolding pattern-seven text-seven patternOf oneWord inputVerdict patternVerdict
 seven = results hits-seven refl refl refl refl refl
 
 hits-eight : occurrences pattern-eight text-eight ≡ (1 ∷ 2 ∷ 4 ∷ []) ∷ []
-unfolding pattern-eight text-eight patternOf oneWord forest tree gather places branches only stands takes member distance width limit least
+unfolding pattern-eight text-eight patternOf oneWord forest tree gather places branches only stands takes member distance width nextEnd horizon limit least
 hits-eight = occurrences-each pattern-eight (plain pattern-eight text-eight) (lit≤ tt) (lit≤ tt)
 
 eight : Results pattern-eight text-eight

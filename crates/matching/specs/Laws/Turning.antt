@@ -4,6 +4,7 @@ use native.Mathlib.Omega.{arith}
 use mathlib.Core.Bool.{true}
 use mathlib.Core.List.{List}
 use mathlib.Core.Path.{refl, ap, _∙_}
+use lib.Dec.{eqb}
 use Rattle.pattern.specs.declared.Pattern.{Pattern}
 use Rattle.pattern.specs.Patterns.{takes, slotAt}
 use Rattle.matching.specs.Occurrence.{plain}
@@ -21,6 +22,7 @@ turned-facing {f} {g} T t = record {
   high = λ i j e h k. T .slot j (omega arith) .high i e k;
   size = refl;
   fits = λ i j e p q d h k. T .slot j (omega arith) .words i e _ ∙ ap (takes (slotAt f i)) (getD-reverse t 0 (q - 1) (p - 1) (omega arith));
+  ends = λ p q d h k. ap (λ (w : ℕ). eqb w 0) (getD-reverse t 0 (q - 1) (p - 1) (omega arith));
 }
 
 pub turned-ready : {f g : Pattern} {n : ℕ} → Turned f g → Ready f n → Ready g n

@@ -13,7 +13,7 @@ use Rattle.matching.specs.Laws.Largest.{largest}
 module _ (f : Pattern) (t other : List ℕ) where
   -- a slot fits a place where it takes one of the two readings
   abbrev pub possible : View
-  possible = record { places = length t; fits = λ j p. plain f t .fits j p || plain f other .fits j p }
+  possible = record { places = length t; fits = λ j p. plain f t .fits j p || plain f other .fits j p; ends = plain f t .ends }
 
   pub possible-largest : AcceptedInput f (length t) → LargestIn f possible (leftmostIn f possible) (rightmostIn f possible)
   possible-largest ok = largest ok

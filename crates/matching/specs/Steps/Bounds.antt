@@ -1,6 +1,6 @@
 -- What the steps on one slot come to, in plain numbers: the least place that has a property.
 use Prim.Native.Nat.{ℕ, _+_, _-_, _≤_, _<_}
-use mathlib.Core.Bool.{Bool, true}
+use mathlib.Core.Bool.{Bool, true, false}
 use mathlib.Core.Path.{_≡_}
 
 -- r is the first of n places, from `from` on, that fits, or past them
@@ -8,6 +8,11 @@ pub record First (fits : ℕ → Bool) (n from r : ℕ) : Type 0 where
   pub low : from ≤ r
   pub hit : r ≤ n → fits r ≡ true
   pub none : (p : ℕ) → p < r → from ≤ p → fits p ≡ true → ⊥
+
+-- r is the last place from `from` on and before `to` at which a sentence ends, or 0
+pub record LastEnd (ends : ℕ → Bool) (from to r : ℕ) : Type 0 where
+  pub some : 0 < r → (from ≤ r) × (r < to) × (ends r ≡ true)
+  pub after : (x : ℕ) → r < x → from ≤ x → x < to → ends x ≡ false
 
 -- r is the larger of a and b
 pub record Larger (a b r : ℕ) : Type 0 where

@@ -21,6 +21,10 @@ pub record Ready (f : Pattern) (n : ℕ) : Type 0 where
   pub least : 1 ≤ f .least
   pub short : n ≤ 20000
 
+-- the view of a text whose sentences never end
+abbrev pub loose : View → View
+loose v = record { places = v .places; fits = v .fits; ends = λ p. false }
+
 -- what the other places ask of a place x at the slot j: each asks that x is not too small
 pub record Bound (f : Pattern) (p : List ℕ) (j x : ℕ) : Type 0 where
   pub own : at p j ≤ x

@@ -7,7 +7,7 @@ use lib.ListN.{length}
 use Rattle.pattern.specs.declared.slot.Slot.{Slot}
 use Rattle.pattern.specs.declared.Pattern.{Pattern}
 use Rattle.pattern.specs.Patterns.{takes, slotAt}
-use Rattle.matching.specs.Occurrence.{View, takesAt, at}
+use Rattle.matching.specs.Occurrence.{View, takesAt, endsAt, at}
 
 -- the text as it is read: from its end where it is mirrored
 abbrev pub seen : Bool → List ℕ → List ℕ
@@ -16,7 +16,7 @@ seen false t = t
 
 -- what a search for the pattern g sees of the text
 abbrev pub viewed : Bool → Pattern → List ℕ → View
-viewed mirrored g t = record { places = length t; fits = λ j p. takesAt (slotAt g j) (seen mirrored t) p }
+viewed mirrored g t = record { places = length t; fits = λ j p. takesAt (slotAt g j) (seen mirrored t) p; ends = endsAt (seen mirrored t) }
 
 -- the row, read from the end of a text of n words
 unfoldable pub flip : ℕ → List ℕ → List ℕ

@@ -43,7 +43,7 @@ accepted-then (Refused why) later e f = absurd (refused-fine e)
 
 -- ---- a slot
 
-takes-zero : (s : Slot) → (takes s 0 ≡ false) ↔ (List·Memᴰ 0 (stated s) → ⊥)
+pub takes-zero : (s : Slot) → (takes s 0 ≡ false) ↔ (List·Memᴰ 0 (stated s) → ⊥)
 unfolding takes
 takes-zero s = (
   λ e m. true≢false (sym (mem-member m) ∙ e),

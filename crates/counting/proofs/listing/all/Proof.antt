@@ -25,8 +25,14 @@ check-at c = c .before .before .before
 abbrev start : tie.After-fits2 → tie.Start
 start c = check-at c .before .before .before
 
-abbrev table-at : tie.After-fits4 → tie.After-tabulate
+abbrev table-at : tie.After-lasts → tie.After-tabulate
 table-at c = c .before .before
+
+abbrev horizons-at : tie.After-lasts3 → tie.After-horizons
+horizons-at c = c .before .before .before
+
+abbrev fits-at : tie.After-lasts3 → tie.After-tabulate
+fits-at c = table-at (horizons-at c .before)
 
 abbrev count-at : tie.After-struct-known → tie.After-count
 count-at c = c .before
@@ -35,7 +41,7 @@ abbrev narrow-at : tie.After-struct-known2 → tie.Else1
 narrow-at c = c .before
 
 abbrev room-at : tie.After-put-all-arg → tie.Else2
-room-at c = c .before .before
+room-at c = c .before .before .before
 
 abbrev put-at : tie.After-slice-known2 → tie.After-put-all
 put-at c = c .before .before
@@ -46,17 +52,18 @@ accepted : (c : tie.After-fits2) → inputVerdict (start c .args .pattern) (leng
 accepted c = sym (check-at c .check-with .ensures) ∙ c .before .enum-told .given .1
 
 ok : (c : tie.After-fits2) → Input (start c .args .pattern) (plain (start c .args .pattern) (start c .args .text .now))
-ok c = passed (plain (start c .args .pattern) (start c .args .text .now)) (accepted c)
+ok c = passed (start c .args .text .now) (accepted c)
 
-abbrev table : (c : tie.After-fits4) → Known (start (table-at c .before) .args .pattern) (length (start (table-at c .before) .args .text .now)) (table-at c .tabulate .last .1 .1 .0)
-table c = known (ok (table-at c .before)) (table-at c .tabulate .ensures)
+abbrev table : (c : tie.After-lasts3)
+    → Known (start (fits-at c .before) .args .pattern) (length (start (fits-at c .before) .args .text .now)) (fits-at c .tabulate .last .1 .1 .0) (horizons-at c .horizons .last .1 .0)
+table c = known (ok (fits-at c .before)) (fits-at c .tabulate .ensures) (horizons-at c .horizons .ensures (start (fits-at c .before) .args .pattern))
 
 short : (c : tie.After-slice-known) → length (c .before .before .args .list .now) < 2 ^ 64
 short c = omega arith
 
 -- where the number is known
 abbrev first : tie.After-count → tie.After-fits2
-first c = table-at (c .before) .before
+first c = fits-at (c .before) .before
 
 number : (c : tie.After-count) → value (c .count .result) ≡ length (occurrences (start (first c) .args .pattern) (start (first c) .args .text .now))
 number c = c .count .ensures (table (c .before))
@@ -82,8 +89,17 @@ slice-aggregate-tabulate c = sym (length-replicate {A = ℕ} 320000 0)
 tabulate-requires : tie.Need-tabulate-requires
 tabulate-requires c κs = (ok c, long-new 320000)
 
+slice-aggregate-horizons : tie.Need-slice-aggregate-horizons
+slice-aggregate-horizons c = sym (length-replicate {A = ℕ} 20000 0)
+
+horizons-requires : tie.Need-horizons-requires
+horizons-requires c κs = let h = ok (table-at c .before) .short in (h, omega (arith, long-new 20000))
+
 slice-aggregate-count : tie.Need-slice-aggregate-count
 slice-aggregate-count c = search needs
+
+slice-aggregate-count-2 : tie.Need-slice-aggregate-count-2
+slice-aggregate-count-2 c = search needs
 
 count-requires : tie.Need-count-requires
 count-requires c κs = table c
@@ -101,6 +117,9 @@ returns-3 c = let e = narrow-at (c .before) in let k = count-at (e .before) in l
 
 slice-aggregate-put-all : tie.Need-slice-aggregate-put-all
 slice-aggregate-put-all c = search needs
+
+slice-aggregate-put-all-2 : tie.Need-slice-aggregate-put-all-2
+slice-aggregate-put-all-2 c = search needs
 
 put-all-requires : tie.Need-put-all-requires
 put-all-requires c κs =
@@ -137,12 +156,16 @@ all-spec =
     enum-told
     slice-aggregate-tabulate
     tabulate-requires
+    slice-aggregate-horizons
+    horizons-requires
     slice-aggregate-count
+    slice-aggregate-count-2
     count-requires
     returns-2
     div-if2
     returns-3
     slice-aggregate-put-all
+    slice-aggregate-put-all-2
     put-all-requires
     same-length
     returns-4)

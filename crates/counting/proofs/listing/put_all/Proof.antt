@@ -14,7 +14,7 @@ abbrev outline-at : tie.After-high → tie.After-of
 outline-at c = c .before .before
 
 abbrev start : tie.After-high → tie.Start
-start c = outline-at c .before .before .before
+start c = outline-at c .before .before .before .before
 
 abbrev unbound-at : tie.After-put-whole-arg → tie.Then1
 unbound-at c = c .before .before .before .before
@@ -31,25 +31,25 @@ each-at c = c .before .before .before
 -- ---- what is known there
 
 abbrev Given : tie.Start → Type 0
-Given c = PutAll (c .args .f) (c .args .n) (c .args .fits .now) (length (c .args .list .now))
+Given c = PutAll (c .args .f) (c .args .n) (c .args .fits .now) (c .args .lasts .now) (length (c .args .list .now))
 
 module _ (c : tie.Then1) (g : Given (start (c .before))) where
   abbrev putWhole : PutWhole (start (c .before) .args .f .count) (start (c .before) .args .n) (outline-at (c .before) .of .result .reach)
-      (outline-at (c .before) .of .result .low) (outline-at (c .before) .of .result .high) (start (c .before) .args .fits .now) (length (start (c .before) .args .list .now))
+      (outline-at (c .before) .of .result .low) (outline-at (c .before) .of .result .high) (start (c .before) .args .fits .now) (start (c .before) .args .lasts .now) (length (start (c .before) .args .list .now))
   putWhole =
       let o = outline-at (c .before) .of .ensures in
-      record { plan = planned (g .known) o; spans = sym (o .spans) ∙ c .if1 .taken; room = g .room }
+      record { parts = planned (g .known) o; spans = sym (o .spans) ∙ c .if1 .taken; room = g .room }
 
 module _ (c : tie.Else1) (g : Given (start (c .before))) where
   abbrev putEach : PutEach (start (c .before) .args .f .count) (start (c .before) .args .n) (outline-at (c .before) .of .result .reach)
       (outline-at (c .before) .of .result .least) (outline-at (c .before) .of .result .span)
-      (outline-at (c .before) .of .result .low) (outline-at (c .before) .of .result .high) (start (c .before) .args .fits .now) (length (start (c .before) .args .list .now))
+      (outline-at (c .before) .of .result .low) (outline-at (c .before) .of .result .high) (start (c .before) .args .fits .now) (start (c .before) .args .lasts .now) (length (start (c .before) .args .list .now))
   putEach =
       let o = outline-at (c .before) .of .ensures in
-      record { plan = planned (g .known) o; from = o .shortest; wide = o .widest; room = g .room }
+      record { parts = planned (g .known) o; from = o .shortest; wide = o .widest; room = g .room }
 
 of-requires : tie.Need-of-requires
-of-requires c κs = c .before .before .pre .known .input .pattern
+of-requires c κs = c .before .before .before .pre .known .input .pattern
 
 slice-aggregate-put-whole : tie.Need-slice-aggregate-put-whole
 slice-aggregate-put-whole c = search needs

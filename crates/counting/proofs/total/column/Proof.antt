@@ -13,7 +13,7 @@ abbrev outline-at : tie.After-high → tie.After-of
 outline-at c = c .before .before
 
 abbrev start : tie.After-high → tie.Start
-start c = outline-at c .before .before .before .before
+start c = outline-at c .before .before .before .before .before
 
 abbrev unbound-at : tie.After-whole-arg2 → tie.Then1
 unbound-at c = c .before .before .before .before
@@ -28,7 +28,7 @@ abbrev each-at : tie.After-slice-known6 → tie.After-each
 each-at c = c .before .before .before .before
 
 of-requires : tie.Need-of-requires
-of-requires c κs = c .before .before .before .pre .0 .input .pattern
+of-requires c κs = c .before .before .before .before .pre .0 .input .pattern
 
 slice-aggregate-whole : tie.Need-slice-aggregate-whole
 slice-aggregate-whole c = search needs
@@ -42,10 +42,10 @@ whole-requires c κs =
     (planned (start h .pre .0) (outline-at h .of .ensures), start h .pre .1 .room)
 
 same-length : tie.Need-same-length
-same-length c = whole-at c .whole .kept .1 .1 .1 .1 .1 .1 .0
+same-length c = whole-at c .whole .kept .1 .1 .1 .1 .1 .1 .1 .0
 
 same-length-2 : tie.Need-same-length-2
-same-length-2 c = whole-at c .whole .kept .1 .1 .1 .1 .1 .1 .1 .0
+same-length-2 c = whole-at c .whole .kept .1 .1 .1 .1 .1 .1 .1 .1 .0
 
 returns : tie.Need-returns
 returns c = λ k. let w = whole-at c in let t = unbound-at (w .before) in let o = outline-at (t .before) .of .ensures in w .whole .ensures (planned k o) (sym (o .spans) ∙ t .if1 .taken)
@@ -65,10 +65,10 @@ each-requires c κs =
     (planned k o, (start h .pre .1, (omega (arith, o .shortest, ok .ordered, ok .most), span-some ok (o .widest), span-few ok (o .widest))))
 
 same-length-3 : tie.Need-same-length-3
-same-length-3 c = each-at c .each .kept .1 .1 .1 .1 .1 .1 .1 .1 .0
+same-length-3 c = each-at c .each .kept .1 .1 .1 .1 .1 .1 .1 .1 .1 .0
 
 same-length-4 : tie.Need-same-length-4
-same-length-4 c = each-at c .each .kept .1 .1 .1 .1 .1 .1 .1 .1 .1 .0
+same-length-4 c = each-at c .each .kept .1 .1 .1 .1 .1 .1 .1 .1 .1 .1 .0
 
 returns-2 : tie.Need-returns-2
 returns-2 c = λ k. let w = each-at c in let o = outline-at (bound-at (w .before) .before) .of .ensures in w .each .ensures (planned k o) (o .shortest) (o .widest)

@@ -12,7 +12,7 @@ use Rattle.counting.proofs.total.count.Tie as tie
 -- ---- the places of the body, from each back to one before
 
 abbrev start : tie.After-lo → tie.Start
-start c = c .before .before .before
+start c = c .before .before .before .before
 
 abbrev column-at : tie.After-lo3 → tie.After-column
 column-at c = c .before .before .before .before
@@ -36,7 +36,7 @@ slice-aggregate-sum-2 : tie.Need-slice-aggregate-sum-2
 slice-aggregate-sum-2 c = search needs
 
 sum-requires : tie.Need-sum-requires
-sum-requires c κs = let k = entry c .pre in let h = k .input .short in let kept = column-at c .column .kept .1 .1 .1 in
+sum-requires c κs = let k = entry c .pre in let h = k .input .short in let kept = column-at c .column .kept .1 .1 .1 .1 in
     (room-less (blank-new 20001 (entry c .args .n) (omega arith) .room) (omega arith) (kept .0) (kept .1 .0), column-fits (k .input) (column-at c .column .ensures k))
 
 returns : tie.Need-returns

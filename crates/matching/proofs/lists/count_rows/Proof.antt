@@ -13,10 +13,10 @@ use Rattle.matching.proofs.lists.count_rows.Statement.{statement}
 use Rattle.matching.proofs.lists.count_rows.Tie as tie
 
 abbrev Inv-loop : tie.InvT-loop
-Inv-loop g text mirrored laid row₀ k₀ row k = Counted g (viewed mirrored g text) row k
+Inv-loop g text mirrored m laid j last₀ k₀ last k = Counted g (viewed mirrored g text) last k
 
 abbrev μ-loop : tie.MeasureT-loop
-μ-loop g text mirrored laid row₀ k₀ row k = 20001 - at row 0
+μ-loop g text mirrored m laid j last₀ k₀ last k = 20001 - at last 0
 
 -- ---- the places of the body
 
@@ -26,8 +26,11 @@ start c = c .before .before
 abbrev lay-out-at : tie.At-loop Inv-loop μ-loop → tie.After-lay-out Inv-loop μ-loop
 lay-out-at c = c .before
 
+abbrev widen-at : tie.After-last Inv-loop μ-loop → tie.After-widen Inv-loop μ-loop
+widen-at c = c .before .before
+
 abbrev loop-at : tie.After-last Inv-loop μ-loop → tie.At-loop Inv-loop μ-loop
-loop-at c = c .before .before
+loop-at c = widen-at c .before
 
 abbrev advance-at : tie.After-last2 Inv-loop μ-loop → tie.After-advance Inv-loop μ-loop
 advance-at c = c .before
@@ -55,7 +58,7 @@ few c = counted-few (c .loop .inv) (ok c)
 
 -- what the search answers
 abbrev searched : (c : tie.After-last2 Inv-loop μ-loop)
-    → Answered (g (turn-at c)) (u (turn-at c)) (turn-at c .loop .last) (record { found = advance-at c .advance .result; places = advance-at c .advance .last .1 .1 .1 .1 .1 .1 .0 })
+    → Answered (g (turn-at c)) (u (turn-at c)) (turn-at c .loop .last) (record { found = advance-at c .advance .result; places = advance-at c .advance .last .1 .1 .1 .1 .1 .1 .1 .0 })
 searched c = advance-at c .advance .ensures (plan-at (turn-at c))
 
 -- ----
@@ -63,8 +66,20 @@ searched c = advance-at c .advance .ensures (plan-at (turn-at c))
 lay-out-requires : tie.Need-lay-out-requires Inv-loop μ-loop
 lay-out-requires c κs = search needs
 
+sub-j : tie.Need-sub-j Inv-loop μ-loop
+sub-j c = omega (arith, start c .pre .some)
+
 loop-holds : tie.Need-loop-holds Inv-loop μ-loop
 loop-holds c = counted-begin _ _ (start c .pre .few)
+
+mul-widen : tie.Need-mul-widen Inv-loop μ-loop
+mul-widen c = search needs
+
+array-read-widen : tie.Need-array-read-widen Inv-loop μ-loop
+array-read-widen c = omega (arith, c .loop .inv .spare .size, ok c .some, ok c .few)
+
+widen-requires : tie.Need-widen-requires Inv-loop μ-loop
+widen-requires c κs = search needs
 
 slice-aggregate-advance : tie.Need-slice-aggregate-advance Inv-loop μ-loop
 slice-aggregate-advance c = search needs
@@ -73,7 +88,9 @@ slice-aggregate-advance-2 : tie.Need-slice-aggregate-advance-2 Inv-loop μ-loop
 slice-aggregate-advance-2 c = search needs
 
 advance-requires : tie.Need-advance-requires Inv-loop μ-loop
-advance-requires c κs = record { plan = plan-at (loop-at c); spare = loop-at c .loop .inv .spare }
+advance-requires c κs =
+    let l = loop-at c in
+    (record { plan = plan-at l; spare = l .loop .inv .spare }, λ x h k. l .loop .inv .clear x h (omega (arith, widen-at c .widen .ensures .0)))
 
 add-k : tie.Need-add-k Inv-loop μ-loop
 add-k c = omega (arith, few (turn-at (c .before)))
@@ -94,7 +111,11 @@ count-rows-spec =
     Inv-loop
     μ-loop
     lay-out-requires
+    sub-j
     loop-holds
+    mul-widen
+    array-read-widen
+    widen-requires
     slice-aggregate-advance
     slice-aggregate-advance-2
     advance-requires

@@ -21,10 +21,10 @@ use Rattle.matching.proofs.lists.write_rows.Statement.{statement}
 use Rattle.matching.proofs.lists.write_rows.Tie as tie
 
 abbrev Inv-loop : tie.InvT-loop
-Inv-loop g text mirrored list₀ m laid row₀ k₀ list row k = Writing g (viewed mirrored g text) list₀ list row k
+Inv-loop g text mirrored list₀ m laid j row₀ k₀ list row k = Writing g (viewed mirrored g text) list₀ list row k
 
 abbrev μ-loop : tie.MeasureT-loop
-μ-loop g text mirrored list₀ m laid row₀ k₀ list row k = 20001 - at row 0
+μ-loop g text mirrored list₀ m laid j row₀ k₀ list row k = 20001 - at row 0
 
 -- ---- the places of the body
 
@@ -34,8 +34,11 @@ start c = c .before .before .before
 abbrev lay-out-at : tie.At-loop Inv-loop μ-loop → tie.After-lay-out Inv-loop μ-loop
 lay-out-at c = c .before
 
+abbrev widen-at : tie.After-row Inv-loop μ-loop → tie.After-widen Inv-loop μ-loop
+widen-at c = c .before .before
+
 abbrev loop-at : tie.After-row Inv-loop μ-loop → tie.At-loop Inv-loop μ-loop
-loop-at c = c .before .before
+loop-at c = widen-at c .before
 
 abbrev advance-at : tie.After-row2 Inv-loop μ-loop → tie.After-advance Inv-loop μ-loop
 advance-at c = c .before
@@ -74,7 +77,7 @@ few c = counted-few (c .loop .inv .counted) (given c .ready)
 -- ---- after the search: the row, and what it is
 
 abbrev row : tie.After-row2 Inv-loop μ-loop → List ℕ
-row c = advance-at c .advance .last .1 .1 .1 .1 .1 .1 .0
+row c = advance-at c .advance .last .1 .1 .1 .1 .1 .1 .1 .0
 
 abbrev searched : (c : tie.After-row2 Inv-loop μ-loop)
     → Answered (g (turn-at c)) (u (turn-at c)) (turn-at c .loop .row) (record { found = advance-at c .advance .result; places = row c })
@@ -110,8 +113,20 @@ same-size c = ap length (pasted c) ∙ length-paste _ _ _ _ (room (found-at c)) 
 lay-out-requires : tie.Need-lay-out-requires Inv-loop μ-loop
 lay-out-requires c κs = search needs
 
+sub-j : tie.Need-sub-j Inv-loop μ-loop
+sub-j c = omega (arith, start c .pre .ready .some)
+
 loop-holds : tie.Need-loop-holds Inv-loop μ-loop
 loop-holds c = writing-begin _ _ _ (start c .pre .ready .few)
+
+mul-widen : tie.Need-mul-widen Inv-loop μ-loop
+mul-widen c = search needs
+
+array-read-widen : tie.Need-array-read-widen Inv-loop μ-loop
+array-read-widen c = omega (arith, c .loop .inv .counted .spare .size, given c .ready .some, given c .ready .few)
+
+widen-requires : tie.Need-widen-requires Inv-loop μ-loop
+widen-requires c κs = search needs
 
 slice-aggregate-advance : tie.Need-slice-aggregate-advance Inv-loop μ-loop
 slice-aggregate-advance c = search needs
@@ -120,7 +135,10 @@ slice-aggregate-advance-2 : tie.Need-slice-aggregate-advance-2 Inv-loop μ-loop
 slice-aggregate-advance-2 c = search needs
 
 advance-requires : tie.Need-advance-requires Inv-loop μ-loop
-advance-requires c κs = record { plan = plan-at (loop-at c); spare = loop-at c .loop .inv .counted .spare }
+advance-requires c κs =
+    let l = loop-at c in
+    let found = l .loop .inv .counted in
+    (record { plan = plan-at l; spare = found .spare }, λ x h k. found .clear x h (omega (arith, widen-at c .widen .ensures .0)))
 
 mul-at : tie.Need-mul-at Inv-loop μ-loop
 mul-at c = omega (arith, small c)
@@ -176,7 +194,11 @@ write-rows-spec =
     Inv-loop
     μ-loop
     lay-out-requires
+    sub-j
     loop-holds
+    mul-widen
+    array-read-widen
+    widen-requires
     slice-aggregate-advance
     slice-aggregate-advance-2
     advance-requires

@@ -21,11 +21,11 @@ start-at c = c .before .before
 abbrev begin : tie.After-slice-known2 → tie.Start
 begin c = entry (start-at c .before)
 
-abbrev then-at : tie.After-settle-arg → tie.Then1
+abbrev then-at : tie.After-keep-arg → tie.Then1
 then-at c = c .before
 
-abbrev settle-at : tie.After-slice-known3 → tie.After-settle
-settle-at c = c .before .before
+abbrev keep-at : tie.After-slice-known3 → tie.After-keep
+keep-at c = c .before .before
 
 -- what a search for the pattern sees of the text
 abbrev seen : tie.After-slice-known2 → Pattern → View
@@ -35,23 +35,26 @@ seen c f = viewed (begin c .args .mirrored) f (begin c .args .text .now)
 
 start-requires : tie.Need-start-requires
 start-requires c κs =
-    let a = entry c .pre in
+    let a = entry c .pre .0 in
     record { inside = omega (arith, a .plan .ready .few, a .spare .size); short = a .plan .ready .short }
 
-settle-requires : tie.Need-settle-requires
-settle-requires c κs =
+keep-requires : tie.Need-keep-requires
+keep-requires c κs =
     let e = then-at c in
     let a = begin (e .before) .pre in
-    record { plan = a .plan; size = omega (arith, a .spare .size); placed = λ k h. omega (arith, start-at (e .before) .start .ensures .past (e .if1 .taken) k h) }
+    let past = start-at (e .before) .start .ensures .past (e .if1 .taken) in (
+      record { plan = a .0 .plan; size = omega (arith, a .0 .spare .size); placed = λ k h. omega (arith, past k h) },
+      λ x h k. a .1 x (omega (arith, past 0 (a .0 .plan .ready .some))) k,
+    )
 
 same-length : tie.Need-same-length
 same-length c = search needs
 
 returns : tie.Need-returns
 returns c = λ w.
-    let e = then-at (settle-at c .before) in
+    let e = then-at (keep-at c .before) in
     let b = e .before in
-    answered (planned w) (seen b (planned w)) (start-at b .start .ensures) (begin b .pre .spare) (e .if1 .taken) (settle-at c .settle .ensures w)
+    answered (planned w) (seen b (planned w)) (start-at b .start .ensures) (begin b .pre .0 .spare) (e .if1 .taken) (keep-at c .keep .ensures w)
 
 same-length-2 : tie.Need-same-length-2
 same-length-2 c = search needs
@@ -61,4 +64,4 @@ returns-2 c = λ w. unanswered (planned w) (seen (c .before) (planned w)) (start
 
 pub advance-spec : {M : Type 1} → statement M
 advance-spec =
-    tie.close (tie.spec start-requires settle-requires same-length returns same-length-2 returns-2)
+    tie.close (tie.spec start-requires keep-requires same-length returns same-length-2 returns-2)

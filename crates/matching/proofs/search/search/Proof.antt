@@ -1,4 +1,5 @@
 -- `search` meets its contract: the pattern laid out is a plan, and the marks are raised to the answer.
+use native.Mathlib.Omega.{arith}
 use Rattle.matching.proofs.Laying.{plan}
 use borrow.Author.Needs.{needs}
 use Rattle.matching.proofs.search.search.Statement.{statement}
@@ -24,7 +25,7 @@ slice-aggregate-advance-2 : tie.Need-slice-aggregate-advance-2
 slice-aggregate-advance-2 c = search needs
 
 advance-requires : tie.Need-advance-requires
-advance-requires c κs = record { plan = plan (start c .pre .0) (lay-out-at c .lay-out .ensures); spare = start c .pre .1 }
+advance-requires c κs = (record { plan = plan (start c .pre .0) (lay-out-at c .lay-out .ensures); spare = start c .pre .1 }, λ x h k. absurd (omega arith))
 
 returns : tie.Need-returns
 returns c = let b = c .before .before in c .before .advance .ensures (plan (start b .pre .0) (lay-out-at b .lay-out .ensures))

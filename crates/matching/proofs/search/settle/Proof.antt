@@ -8,14 +8,14 @@ use Rattle.matching.proofs.Raising.{none, less, placed}
 use Rattle.matching.proofs.Settling.{Calm, calm-begin, calm-same, calm-raise, all-calm, settled, unsettled}
 use Rattle.matching.specs.Occurrence.{View}
 use Rattle.matching.specs.Steps.Turning.{viewed}
-use Rattle.matching.specs.Steps.Settling.{slack}
+use Rattle.matching.specs.Steps.Settling.{loose, slack}
 use Rattle.matching.specs.Steps.Laid.{Plan, Raisable, planned}
 use borrow.Author.Needs.{needs}
 use Rattle.matching.proofs.search.settle.Statement.{statement}
 use Rattle.matching.proofs.search.settle.Tie as tie
 
 abbrev Inv-loop : tie.InvT-loop
-Inv-loop laid m least most text mirrored p₀ n calm₀ j₀ p calm j = (w : Plan (length text) m least most laid) → Calm (planned w) (viewed mirrored (planned w) text) p₀ p calm j
+Inv-loop laid m least most text mirrored p₀ n calm₀ j₀ p calm j = (w : Plan (length text) m least most laid) → Calm (planned w) (loose (viewed mirrored (planned w) text)) p₀ p calm j
 
 abbrev μ-loop : tie.MeasureT-loop
 μ-loop laid m least most text mirrored p₀ n calm₀ j₀ p calm j = 17 * slack p + (m - calm)
@@ -50,7 +50,7 @@ abbrev f : tie.At-loop Inv-loop μ-loop → Pattern
 f c = planned (given c .plan)
 
 abbrev v : tie.At-loop Inv-loop μ-loop → View
-v c = viewed (start c .args .mirrored) (f c) (start c .args .text .now)
+v c = loose (viewed (start c .args .mirrored) (f c) (start c .args .text .now))
 
 abbrev calm : (c : tie.At-loop Inv-loop μ-loop) → Calm (f c) (v c) (start c .args .p .now) (c .loop .p) (c .loop .calm) (c .loop .j)
 calm c = c .loop .inv (given c .plan)
@@ -142,7 +142,7 @@ same-length-2 c = same-size (c .before)
 returns-2 : tie.Need-returns-2 Inv-loop μ-loop
 returns-2 c = λ w.
     let s = c .before .loop .inv w in
-    settled (w .ready) (given (c .before) .placed) (s .rising) (all-calm s (c .loop-test .left))
+    settled (λ x. refl) (w .ready) (given (c .before) .placed) (s .rising) (all-calm s (c .loop-test .left))
 
 pub settle-spec : {M : Type 1} → statement M
 settle-spec =

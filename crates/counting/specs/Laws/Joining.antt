@@ -1,0 +1,37 @@
+-- Two texts with a sentence end between them: each occurrence lies in one of the two, so the tally of the joined text is their sum.
+use Prim.Native.Nat.{ℕ, _+_}
+use mathlib.Core.Path.{_≡_, ap, _∙_}
+use mathlib.Core.List.{List, _∷_, _++_}
+use lib.ListN.{length}
+use Rattle.pattern.specs.declared.Pattern.{Pattern}
+use Rattle.pattern.specs.declared.refusal.Verdict.{Verdict}
+use Rattle.pattern.specs.declared.refusal.Verdict.the-variants.{Accepted}
+use Rattle.pattern.specs.Tests.{inputVerdict}
+use Rattle.pattern.specs.Laws.Accepting.{input-accepted}
+use Rattle.matching.specs.Occurrences.{occurrences}
+use Rattle.matching.specs.Laws.Joining.{joined-input, joined-tally}
+use Rattle.counting.specs.Answers.{totalOf, talliedAfter, tallied}
+
+-- what `tally` answers for the two texts are the answers for two numbers, and for the joined text that for their sum; an answer is 9
+-- exactly if its number is over
+pub record TalliesAdd (f : Pattern) (t u : List ℕ) : Type 0 where
+  pub first : ℕ
+  pub second : ℕ
+  pub of-first : tallied f t ≡ totalOf first
+  pub of-second : tallied f u ≡ totalOf second
+  pub of-joined : tallied f (t ++ 0 ∷ u) ≡ totalOf (first + second)
+
+tallied-total : {o : Verdict} → o ≡ Accepted → (n : ℕ) → talliedAfter o n ≡ totalOf n
+tallied-total e n = ap (λ (o : Verdict). talliedAfter o n) e
+
+-- where the joined text passes the tests, its tally is the sum of the two
+pub tallies-add : (f : Pattern) (t u : List ℕ) → inputVerdict f (length (t ++ 0 ∷ u)) ≡ Accepted → TalliesAdd f t u
+tallies-add f t u e =
+    let b = joined-input f t u e in
+    record {
+      first = length (occurrences f t);
+      second = length (occurrences f u);
+      of-first = tallied-total (b .0) (length (occurrences f t));
+      of-second = tallied-total (b .1) (length (occurrences f u));
+      of-joined = tallied-total e (length (occurrences f (t ++ 0 ∷ u))) ∙ ap totalOf (joined-tally (input-accepted f (length (t ++ 0 ∷ u)) .0 e .pattern) t u);
+    }
