@@ -1,4 +1,4 @@
-//! The brute force against the scope's examples, and its methods against each other.
+//! The brute force against the scope's examples and texts with sentence ends, and its methods against each other.
 
 use super::occurrences::{keeps_to_one_sentence, occurrences};
 use super::*;
@@ -14,7 +14,7 @@ use crate::cases::{pattern, ANY_SPAN};
 use crate::layout::Cursors;
 use crate::rng::Rng;
 
-/// Asserts that a list, if the scope names it, has these rows.
+/// Asserts that a list, if it is named, has these rows.
 fn assert_rows(named: Option<Rows>, rows: &[Row]) {
     if let Some(named) = named {
         assert_eq!(named, rows);
@@ -82,7 +82,10 @@ fn a_stop_at_each_place() {
         let (listed, sieved) = (Brute::enumerated(&pattern, &cut), Brute::windowed(&pattern, &cut));
         assert_eq!(listed.is_occurrence(&[3, 5, 7]).value, counts);
         assert_eq!(listed.excerpt(&[3, 5, 7], 0).length as u64, 5 * counts);
-        for found in [listed.first_after(&[0; 3]), listed.last_before(&[99; 3]), sieved.first_after(&[0; 3])] {
+        let (start, end) = ([0; 3], [99; 3]);
+        let forward = [listed.first_after(&start), sieved.first_after(&start)];
+        let backward = [listed.last_before(&end), sieved.last_before(&end)];
+        for found in [forward, backward].concat() {
             assert_eq!(found.found, counts);
         }
         for number in [listed.support(), listed.tally(), sieved.support(), sieved.tally()] {

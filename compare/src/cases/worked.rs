@@ -213,7 +213,7 @@ pub const CUT_TEXTS: [Worked; 19] = [
         [&[&[1, 2], &[4, 5], &[5, 6]], &[&[1, 2], &[4, 5], &[5, 6]]],
         &[&[1, 4], &[1, 5], &[2, 4], &[2, 5], &[2, 6]],
     ),
-    // A span that only a row across the sentence end has, and one that only a row within a sentence has.
+    // A span that only a row across the sentence end has, and one that such a row has and one within a sentence.
     Worked { span: (4, 4), ..cut(&[A, B, STOP, B], AB, &[], [&[], &[]], &[&[1, 2], &[1, 4]]) },
     Worked {
         span: (3, 20_000),

@@ -88,7 +88,7 @@ fn compare(run: &mut Run, rng: &mut Rng, pattern: &Pattern, text: &[u16]) {
     largest(&both, &occurrences);
 }
 
-/// All rows of so many entries over these choices, or if there are more than `most`, `some` of them.
+/// All rows of so many entries over these choices, or if there are more than `most`, `sampled` of them.
 fn some(rng: &mut Rng, choices: &[u16], length: usize, (most, sampled): (usize, usize)) -> Vec<Row> {
     if choices.len().pow(length as u32) <= most {
         return tuples(choices, length);

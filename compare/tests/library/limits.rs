@@ -180,8 +180,8 @@ fn counted(run: &mut Run, pattern: &Pattern, text: &[u16]) {
     both.all();
 }
 
-/// Compares sevens that a sentence end keeps below 2^64 or not: so many that they pass it with a 0 at some place, one
-/// fewer beside as many others as pass it or just do not, and sentences of the same lengths.
+/// Compares sevens that a sentence end keeps below 2^64 or not: so many that they would pass it, with a 0 for one of them;
+/// one fewer beside as many others as just pass it or just do not; and sentences of equal lengths.
 fn cut_sevens(run: &mut Run, pattern: &Pattern, words: usize, others: usize) {
     let mut texts: Vec<Vec<u16>> =
         (1..=words).step_by(words / 8).map(|place| cut_at(&[place], vec![7; words])).collect();

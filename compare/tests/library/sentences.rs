@@ -141,10 +141,11 @@ fn added(one: Answer, other: Answer) -> Answer {
     }
 }
 
-/// The entries that a list call writes, with so many lent.
+/// The entries that a list call writes, with so many lent, which is room enough.
 fn listed(list: ListCall, pattern: &Pattern, text: &[u16], room: usize) -> Vec<u16> {
     let mut entries = vec![0; room];
-    let rows = list(pattern, text, &mut entries).value as usize;
-    entries.truncate(rows * pattern.count);
+    let answer = list(pattern, text, &mut entries);
+    assert_eq!(answer.number, 0);
+    entries.truncate(answer.value as usize * pattern.count);
     entries
 }

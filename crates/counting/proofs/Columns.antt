@@ -55,6 +55,12 @@ planned {f} k o = record {
 
 -- ---- the windows
 
+-- an entry of the table of horizons is a place past its index
+pub last-inside : {v : View} {E : List ℕ} → Horizons v E → {i e : ℕ} → i < v .places → e ≡ getD E i 0 → (i < e) × (e ≤ v .places)
+last-inside {v} h {i} l d =
+    let inside : i + 1 ≤ v .places = omega arith in
+    (omega (arith, h .last i l, horizon-past v inside), omega (arith, h .last i l, horizon-inside v inside))
+
 -- the places from the index i on to the end of the sentence
 abbrev pub sentenceAt : ℕ → ℕ → Window
 sentenceAt i e = record { first = i; places = e - i; starts = e - i; from = 0 }
@@ -62,12 +68,6 @@ sentenceAt i e = record { first = i; places = e - i; starts = e - i; from = 0 }
 -- the places that a row can span which starts at index i
 abbrev pub startAt : ℕ → ℕ → ℕ → Window
 startAt i k from = record { first = i; places = k; starts = 1; from = from }
-
--- an entry of the table of horizons is a place past its index
-pub last-inside : {v : View} {E : List ℕ} → Horizons v E → {i e : ℕ} → i < v .places → e ≡ getD E i 0 → (i < e) × (e ≤ v .places)
-last-inside {v} h {i} l d =
-    let inside : i + 1 ≤ v .places = omega arith in
-    (omega (arith, h .last i l, horizon-past v inside), omega (arith, h .last i l, horizon-inside v inside))
 
 -- a run over them
 module _ {m n reach : ℕ} {low high T E : List ℕ} (g : Parted m n reach low high T E) {i e : ℕ} (h : i < n) (d : e ≡ getD E i 0) where
@@ -78,7 +78,7 @@ module _ {m n reach : ℕ} {low high T E : List ℕ} (g : Parted m n reach low h
   startRun pos q = record { n = n; plan = g .plan; inside = omega (arith, last-inside (g .horizons) h d); starts = omega (arith, last-inside (g .horizons) h d) }
 
 module _ (f : Pattern) {i e : ℕ} (l : i ≤ e) where
-  pub size-sentence : size f (sentenceAt i e) 0 ≡ e - i
+  size-sentence : size f (sentenceAt i e) 0 ≡ e - i
   unfolding size
   size-sentence = omega arith
 
@@ -102,7 +102,7 @@ and-false true = refl
 and-false false = refl
 
 module _ (f : Pattern) (v : View) (p : ℕ) (off : v .fits 0 p ≡ false) where
-  pub ways-off : (k : ℕ) (stop : ℕ → ℕ) (from : ℕ) → ways f v stop from k 0 p ≡ 0
+  ways-off : (k : ℕ) (stop : ℕ → ℕ) (from : ℕ) → ways f v stop from k 0 p ≡ 0
   unfolding ways when stands
   ways-off zero stop from = rw (off, and-false (ltb p (stop 0)))
   ways-off (suc k) stop from = rw (off, and-false (ltb p (stop 0)))
@@ -110,11 +110,17 @@ module _ (f : Pattern) (v : View) (p : ℕ) (off : v .fits 0 p ≡ false) where
   branches-off : (k : ℕ) (stop : ℕ → ℕ) (from : ℕ) → branches f v stop from k 0 p ≡ []
   branches-off k stop from = length-empty (branches f v stop from k 0 p) (omega (arith, length-branches f v stop from k 0 p, ways-off k stop from))
 
+-- the table says where it does not
 pub off-fits : {f : Pattern} {v : View} → Input f v → {T : List ℕ} → Fitted f v T → (i : ℕ) → i < v .places → (getD T i 0 ≡ 1 → ⊥) → v .fits 0 (i + 1) ≡ false
 off-fits {f} ok {T} fit i inside off =
     let some = ok .pattern .some in
     let z : 0 * 20000 + i ≡ i = omega arith in
     sym (rw (z, ne-eqb (getD T i 0) 1 off) at (fit .fit 0 (omega arith) i inside))
+
+pub starting-off : {f : Pattern} {v : View} → Input f v → (p : ℕ) → 1 ≤ p → p ≤ v .places → v .fits 0 p ≡ false → startingIn f v p ≡ []
+unfolding tree
+starting-off {f} {v} ok p one inside off =
+    starting-each f v (ok .pattern .some) p one inside (ok .pattern .least) ∙ branches-off f v p off (f .count - 1) (limit f v p) (least f p)
 
 -- ---- the rows of a sentence, from the index i on to its end e
 
@@ -130,16 +136,13 @@ module _ {f : Pattern} {v : View} (ok : Input f v) (spans : unbound f (v .places
 
   -- none starts where the sentence ends
   final : (k : ℕ) → k + 1 ≡ e → e < v .places → startingIn f v (k + 1) ≡ branches f v (λ j. e + 1) 0 (f .count - 1) 0 (k + 1)
-  unfolding tree
   final k a b =
       let l : i + 1 ≤ v .places = omega arith in
       let stop = horizon-is v l .stop (omega arith) in
       let end : v .ends (k + 1) ≡ true = rw (a, ee) (stop .1) in
       let some : 0 < f .count = ok .pattern .some in
       let off : v .fits 0 (k + 1) ≡ false = is-false (v .fits 0 (k + 1)) (λ t. true≢false (sym end ∙ ok .no-end .unfit 0 some (k + 1) t)) in
-      starting-each f v (ok .pattern .some) (k + 1) (omega arith) (omega arith) (ok .pattern .least)
-      ∙ branches-off f v (k + 1) off (f .count - 1) (limit f v (k + 1)) (least f (k + 1))
-      ∙ sym (branches-off f v (k + 1) off (f .count - 1) (λ j. e + 1) 0)
+      starting-off ok (k + 1) (omega arith) (omega arith) off ∙ sym (branches-off f v (k + 1) off (f .count - 1) (λ j. e + 1) 0)
 
   pub sentence-rows : (k : ℕ) → i ≤ k → k < e → startingIn f v (k + 1) ≡ branches f v (λ j. e + 1) 0 (f .count - 1) 0 (k + 1)
   sentence-rows k a b =
@@ -153,7 +156,7 @@ module _ {f : Pattern} {v : View} (ok : Input f v) (spans : unbound f (v .places
         ]
       ]
 
-  pub sentence-count : (k : ℕ) → i ≤ k → k < e → length (startingIn f v (k + 1)) ≡ ways f v (λ j. e + 1) 0 (f .count - 1) 0 (k + 1)
+  sentence-count : (k : ℕ) → i ≤ k → k < e → length (startingIn f v (k + 1)) ≡ ways f v (λ j. e + 1) 0 (f .count - 1) 0 (k + 1)
   sentence-count k a b = ap length (sentence-rows k a b) ∙ length-branches f v (λ j. e + 1) 0 (f .count - 1) 0 (k + 1)
 
 -- ---- the column: done below i
@@ -161,11 +164,10 @@ module _ {f : Pattern} {v : View} (ok : Input f v) (spans : unbound f (v .places
 pub record Filled (f : Pattern) (v : View) (H₀ L₀ : List ℕ) (i : ℕ) (H L : List ℕ) : Type 0 where
   pub high : length H ≡ length H₀
   pub low : length L ≡ length L₀
-  pub inside : i ≤ v .places
   pub done : (k : ℕ) → k < i → val H L k ≡ length (startingIn f v (k + 1))
 
 pub filled-begin : {f : Pattern} {v : View} {H L : List ℕ} → Filled f v H L 0 H L
-filled-begin = record { high = refl; low = refl; inside = omega arith; done = λ k h. absurd (omega arith) }
+filled-begin = record { high = refl; low = refl; done = λ k h. absurd (omega arith) }
 
 -- the numbers of lists that have come back from the index i on
 module _ (H L X Y : List ℕ) {i : ℕ} (a : i ≤ length H) (b : i ≤ length L) where
@@ -199,13 +201,11 @@ module _ {f : Pattern} {v : View} {H₀ L₀ : List ℕ} {i : ℕ} {H L : List �
     pub filled-more : {X Y H′ L′ : List ℕ} → Row f v (sentenceAt i e) (f .count - 1) 0 X Y → H′ ≡ take i H ++ X → L′ ≡ take i L ++ Y
         → length H′ ≡ length H → length L′ ≡ length L → Filled f v H₀ L₀ e H′ L′
     filled-more {X} {Y} r eh el lh ll =
-        let l : i + 1 ≤ v .places = omega arith in
         let a : i ≤ length H = omega (arith, s .high, room .high) in
         let b : i ≤ length L = omega (arith, s .low, room .low) in
         record {
           high = lh ∙ s .high;
           low = ll ∙ s .low;
-          inside = omega (arith, horizon-inside v l);
           done = λ k h. rw (eh, el) (elim (decLt k i) [
             | yes c ↦ joined-before H L X Y a b k c ∙ s .done k c
             | no c ↦ let d : i + (k - i) ≡ k = omega arith in
@@ -233,7 +233,6 @@ module _ {f : Pattern} {v : View} {H₀ L₀ : List ℕ} {i : ℕ} {H L : List �
         filled = record {
           high = simp length-set a;
           low = simp length-set b;
-          inside = omega arith;
           done = below-more _ i (λ k y. val-other H L i h l k (λ q. omega arith) ∙ s .filled .done k y) (val-same H L i h l (omega arith) (omega arith) ∙ e);
         };
         todo = λ k y. val-other H L i h l k (λ q. omega arith) ∙ s .todo k (omega arith);
@@ -256,13 +255,12 @@ module _ {f : Pattern} {v : View} {H₀ L₀ : List ℕ} {i : ℕ} {H L : List �
     -- no row starts where the first slot does not fit
     pub filling-skip : {T : List ℕ} → Fitted f v T → (getD T i 0 ≡ 1 → ⊥) → Filling f v H₀ L₀ (i + 1) H L
     filling-skip fit off =
-        let none = starting ∙ ways-off f v (i + 1) (off-fits ok fit i inside off) (f .count - 1) (limit f v (i + 1)) (least f (i + 1)) in
+        let none = starting-off ok (i + 1) (omega arith) (omega arith) (off-fits ok fit i inside off) in
         record {
           filled = record {
             high = s .filled .high;
             low = s .filled .low;
-            inside = omega arith;
-            done = below-more _ i (s .filled .done) (s .todo i (omega arith) ∙ sym none);
+            done = below-more _ i (s .filled .done) (s .todo i (omega arith) ∙ sym (ap length none));
           };
           todo = λ k y. s .todo k (omega arith);
         }

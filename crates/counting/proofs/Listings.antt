@@ -4,7 +4,7 @@ use native.Mathlib.Omega.{arith}
 use mathlib.Core.Path.{_≡_, refl, sym, ap, _∙_, fun-ext}
 use mathlib.Core.List.{List, [], _∷_, _++_, map}
 use mathlib.Core.Bool.{true}
-use lib.ListN.{length, getD, take, length-append}
+use lib.ListN.{length, getD, take}
 use Rattle.pattern.specs.declared.Pattern.{Pattern}
 use Rattle.pattern.specs.Patterns.{slotAt}
 use Rattle.basics.specs.Collections.{Every}
@@ -16,18 +16,18 @@ use Rattle.matching.specs.Laws.Enumeration.{occurrences-occur}
 use Rattle.basics.specs.Sums.{gather}
 use Rattle.matching.specs.Laws.Branches.{tree, forest}
 use Rattle.matching.specs.Spans.{width, horizon, limit, least}
-use Rattle.matching.specs.Laws.Cover.{occurrences-each, starting-each, count-each}
+use Rattle.matching.specs.Laws.Cover.{occurrences-each, starting-each}
 use Rattle.matching.specs.Laws.Sentences.{horizon-past}
 use Rattle.counting.specs.declared.window.Window.{Window}
 use Rattle.counting.specs.Steps.Inputs.{Input}
 use Rattle.counting.specs.Laws.Inputs.{gaps}
-use Rattle.counting.specs.Laws.Runs.{gather-same, run-split, run-one, length-empty, put-append, put-written}
+use Rattle.counting.specs.Laws.Runs.{gather-same, run-split, length-run, run-one, put-append, put-written}
 use Rattle.counting.specs.Steps.Fits.{Fitted}
 use Rattle.counting.specs.Steps.Plans.{Handed, unbound}
 use Rattle.counting.specs.Steps.Rows.{size, stopAt}
 use Rattle.counting.specs.Steps.Tables.{rowsOf, rowsAt, Tabled}
 use Rattle.counting.specs.Steps.Walks.{run, put, Leads, Walk, Walked}
-use Rattle.counting.proofs.Columns.{sentenceAt, startAt, stop-sentence, stop-start, from-start, ways-off, off-fits, sentence-rows}
+use Rattle.counting.proofs.Columns.{sentenceAt, startAt, stop-sentence, stop-start, from-start, off-fits, starting-off, sentence-rows}
 use Rattle.counting.proofs.Tabling.{rows-last, rows-step, rows-child}
 
 -- ---- a window's table leads through its rows
@@ -116,59 +116,57 @@ module _ {f : Pattern} {v : View} (ok : Input f v) where
         let e : i ≡ v .places = omega arith in
         s .list ∙ rw (e, each-rows) (put-written (occurrencesIn f v) (f .count) l (every-long f v) room)
 
-    module _ (inside : i < v .places) where
-      -- the rows that start from the index i to e - 1 have been put after those before
-      listing-past : {e : ℕ} → i < e → e ≤ v .places → {r : ℕ} {l″ : List ℕ} → length l″ ≡ length l′ → r ≡ rows + length (run (startRows f v) i e)
-          → l″ ≡ put (f .count) rows (run (startRows f v) i e) l′ → Listing f v l e r l″
-      listing-past {e} a b {r} {l″} long er el =
-          let part = run (startRows f v) i e in
-          let u : run (startRows f v) 0 e ≡ run (startRows f v) 0 i ++ part = run-split (startRows f v) 0 i e (omega arith) (omega arith) in
+    -- the rows that start from the index i to e - 1 have been put after those before
+    listing-past : {e : ℕ} → i < e → e ≤ v .places → {r : ℕ} {l″ : List ℕ} → length l″ ≡ length l′ → r ≡ rows + length (run (startRows f v) i e)
+        → l″ ≡ put (f .count) rows (run (startRows f v) i e) l′ → Listing f v l e r l″
+    listing-past {e} a b {r} {l″} long er el =
+        let part = run (startRows f v) i e in
+        let u : run (startRows f v) 0 e ≡ run (startRows f v) 0 i ++ part = run-split (startRows f v) 0 i e (omega arith) (omega arith) in
+        record {
+          long = long ∙ s .long;
+          inside = b;
+          number = er ∙ omega (arith, s .number, length-run (startRows f v) 0 i e (omega arith) (omega arith));
+          list =
+              el
+              ∙ ap (put (f .count) rows part) (s .list)
+              ∙ sym (put-append (run (startRows f v) 0 i) part (f .count) 0 rows l (omega (arith, s .number)))
+              ∙ ap (λ (R : List (List ℕ)). put (f .count) 0 R l) (sym u);
+        }
+
+    pub listing-skip : i < v .places → {T : List ℕ} → Fitted f v T → (getD T i 0 ≡ 1 → ⊥) → Listing f v l (i + 1) rows l′
+    unfolding put startRows
+    listing-skip inside fit off =
+        let e : run (startRows f v) i (i + 1) ≡ [] = run-one (startRows f v) i ∙ starting-off ok (i + 1) (omega arith) (omega arith) (off-fits ok fit i inside off) in
+        listing-past (omega arith) (omega arith) refl (rw e (omega arith)) (rw e refl)
+
+    -- by the table of a window w from the index i on, whose first slot has the rows from there to e - 1
+    module _ (w : Window) {e y : ℕ} (past : i < e) (end : e ≤ v .places) (ey : y + 1 ≡ e - i)
+        (same : run (rowsAt f v w 0) 0 (e - i) ≡ run (startRows f v) i e) {low high N : List ℕ} (leads : Leads (f .count) i low high N (size f w) (rowsAt f v w))
+        (room : length (occurrencesIn f v) * f .count ≤ length l) where
+      pub window-walk : Walk (f .count) i low high N 0 0 y rows (length l′)
+      window-walk =
+          let some = ok .pattern .some in
+          let short = ok .short in
+          let long = s .long in
           record {
-            long = long ∙ s .long;
-            inside = b;
-            number = rw u (er ∙ omega (arith, s .number, length-append (run (startRows f v) 0 i) part));
-            list =
-                el
-                ∙ ap (put (f .count) rows part) (s .list)
-                ∙ sym (put-append (run (startRows f v) 0 i) part (f .count) 0 rows l (omega (arith, s .number)))
-                ∙ ap (λ (R : List (List ℕ)). put (f .count) 0 R l) (sym u);
+            n = size f w;
+            rows = rowsAt f v w;
+            leads = leads;
+            slot = omega arith;
+            start = omega arith;
+            order = omega arith;
+            near = omega arith;
+            room = length (occurrencesIn f v);
+            fits = rw (ey, same, ← each-rows) (omega (arith, s .number, length-run (startRows f v) 0 i e (omega arith) (omega arith), length-run (startRows f v) 0 e (v .places) (omega arith) end));
+            wide = rw long room;
           }
 
-      pub listing-skip : {T : List ℕ} → Fitted f v T → (getD T i 0 ≡ 1 → ⊥) → Listing f v l (i + 1) rows l′
-      unfolding put startRows
-      listing-skip fit off =
-          let e : run (startRows f v) i (i + 1) ≡ [] = run-one (startRows f v) i ∙ length-empty (startingIn f v (i + 1))
-          (omega (arith, count-each f v (ok .pattern .some) (i + 1) (omega arith) (omega arith) (ok .pattern .least), ways-off f v (i + 1) (off-fits ok fit i inside off) (f .count - 1) (limit f v (i + 1)) (least f (i + 1)))) in
-          listing-past (omega arith) (omega arith) refl (rw e (omega arith)) (rw e refl)
-
-      -- by the table of a window w from the index i on, whose first slot has the rows from there to e - 1
-      module _ (w : Window) {e y : ℕ} (past : i < e) (end : e ≤ v .places) (ey : y + 1 ≡ e - i)
-          (same : run (rowsAt f v w 0) 0 (e - i) ≡ run (startRows f v) i e) {low high N : List ℕ} (leads : Leads (f .count) i low high N (size f w) (rowsAt f v w))
-          (room : length (occurrencesIn f v) * f .count ≤ length l) where
-        pub window-walk : Walk (f .count) i low high N 0 0 y rows (length l′)
-        window-walk =
-            let some = ok .pattern .some in
-            let short = ok .short in
-            let long = s .long in
-            record {
-              n = size f w;
-              rows = rowsAt f v w;
-              leads = leads;
-              slot = omega arith;
-              start = omega arith;
-              order = omega arith;
-              near = omega arith;
-              room = length (occurrencesIn f v);
-              fits = rw (ey, same, ← each-rows) (omega (arith, s .number, ap length (run-split (startRows f v) 0 i e (omega arith) (omega arith)), length-append (run (startRows f v) 0 i) (run (startRows f v) i e), ap length (run-split (startRows f v) 0 e (v .places) (omega arith) end), length-append (run (startRows f v) 0 e) (run (startRows f v) e (v .places))));
-              wide = rw long room;
-            }
-
-        pub listing-more : {row : List ℕ} {r : ℕ} {l″ : List ℕ} → length l″ ≡ length l′ → Walked window-walk row l′ r l″ → Listing f v l e r l″
-        unfolding window-walk
-        listing-more {row} long d =
-            let same′ : run (rowsAt f v w 0) 0 (y + 1) ≡ run (startRows f v) i e = rw ey same in
-            listing-past past end long (rw same′ at (d .number))
-            (d .list ∙ ap (λ (R : List (List ℕ)). put (f .count) rows R l′) (map-same row (run (rowsAt f v w 0) 0 (y + 1)) ∙ same′))
+      pub listing-more : {row : List ℕ} {r : ℕ} {l″ : List ℕ} → length l″ ≡ length l′ → Walked window-walk row l′ r l″ → Listing f v l e r l″
+      unfolding window-walk
+      listing-more {row} long d =
+          let same′ : run (rowsAt f v w 0) 0 (y + 1) ≡ run (startRows f v) i e = rw ey same in
+          listing-past past end long (rw same′ at (d .number))
+          (d .list ∙ ap (λ (R : List (List ℕ)). put (f .count) rows R l′) (map-same row (run (rowsAt f v w 0) 0 (y + 1)) ∙ same′))
 
   -- the rows of the two kinds of window
   module _ {i e : ℕ} (inside : i < v .places) (ee : e ≡ horizon v (i + 1)) where

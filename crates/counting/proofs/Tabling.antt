@@ -3,7 +3,7 @@ use Prim.Native.Nat.{ℕ, zero, suc, _+_, _-_, _*_, _≤_, _<_, min}
 use native.Mathlib.Decide.{decLe, ℕ-discrete}
 use native.Mathlib.Omega.{arith}
 use mathlib.Core.Path.{_≡_, refl, sym, ap, _∙_}
-use mathlib.Core.List.{List, [], _∷_, _++_, map}
+use mathlib.Core.List.{List, [], _∷_, map}
 use mathlib.Core.Bool.{Bool, true, false, _&&_, and-eq-true-iff, true≢false}
 use lib.ListN.{getD}
 use lib.Dec.{leb}
@@ -20,7 +20,7 @@ use Rattle.counting.specs.Steps.Fits.{fitted, Fitted}
 use Rattle.counting.specs.Steps.Rows.{size, stopAt}
 use Rattle.counting.specs.Steps.Tables.{NextAlive, Reached, ends, leads, NextRows, rowsOf, Tabled}
 use Rattle.counting.specs.Steps.Walks.{run}
-use Rattle.counting.specs.Laws.Runs.{run-none, run-some}
+use Rattle.counting.specs.Laws.Runs.{gather-same, run-none, run-some}
 use Rattle.counting.proofs.Counting.{fits-inside, Stage, stage-back, size-less}
 
 -- ---- a test that tells where there are rows
@@ -59,11 +59,6 @@ and-other false b e d = absurd (true≢false (sym d))
 
 -- ---- the rows from a slot on, by the indexes of the window
 
-pub gather-shift : (c : ℕ) (g : ℕ → List (List ℕ)) (d x y : ℕ) → y ≡ d + x + 1 → gather g (places y c) ≡ gather (λ z. g (d + z + 1)) (places x c)
-unfolding gather places
-gather-shift zero g d x y e = refl
-gather-shift (suc c) g d x y e = rw (gather-shift c g d (suc x) (suc y) (omega arith)) (ap (λ (k : ℕ). g k ++ gather (λ z. g (d + z + 1)) (places (suc x) c)) e)
-
 module _ (f : Pattern) (v : View) (w : Window) where
   abbrev first : ℕ
   first = w .first
@@ -77,7 +72,7 @@ module _ (f : Pattern) (v : View) (w : Window) where
   abbrev rows : ℕ → ℕ → ℕ → List (List ℕ)
   rows = rowsOf f v w
 
-  pub rows-past : (k j x : ℕ) → size f w j ≤ x → rows k j x ≡ []
+  rows-past : (k j x : ℕ) → size f w j ≤ x → rows k j x ≡ []
   unfolding rowsOf branches only stands stopAt
   rows-past zero j x h = rw (le-ltb (first + x + 1) (first + size f w j + 1) (omega arith))
   rows-past (suc k) j x h = rw (le-ltb (first + x + 1) (first + size f w j + 1) (omega arith))
@@ -100,7 +95,7 @@ module _ (f : Pattern) (v : View) (w : Window) where
         let c : slotAt f (suc j) .high + 1 - slotAt f (suc j) .low ≡ x + high + 1 + 1 - (x + low + 1) = omega arith in
         ap (λ (R : List (List ℕ)). only (stands f v stop from j (first + x + 1)) (map (λ r. (first + x + 1) ∷ r) R))
         (ap (λ (z : ℕ). gather (branches f v stop from k (suc j)) (places (first + x + 1 + slotAt f (suc j) .low + 1) z)) c
-        ∙ gather-shift (x + high + 1 + 1 - (x + low + 1)) (branches f v stop from k (suc j)) first (x + low + 1) (first + x + 1 + slotAt f (suc j) .low + 1) (omega arith))
+        ∙ gather-same (x + high + 1 + 1 - (x + low + 1)) (branches f v stop from k (suc j)) (rows k (suc j)) (first + x + 1 + slotAt f (suc j) .low + 1) (x + low + 1) (λ i h. ap (branches f v stop from k (suc j)) (omega arith)))
 
     pub rows-step : (rows (suc k) j x ≡ [] → ⊥) → rows (suc k) j x ≡ map (λ r. (first + x + 1) ∷ r) onward
     rows-step h = by-case (stands f v stop from j (first + x + 1)) (λ e. rows-on ∙ only-some (map (λ r. (first + x + 1) ∷ r) onward) e) (λ e. absurd (h (rows-on ∙ only-none (map (λ r. (first + x + 1) ∷ r) onward) e)))

@@ -6,8 +6,7 @@ use mathlib.Core.Bool.{Bool, true, false, true≢false, false≢true}
 use mathlib.Core.List.{List}
 use mathlib.Core.Path.{_≡_, sym, _∙_}
 use lib.ListN.{length}
-use lib.Dec.{eqb}
-use borrow.Author.Tests.{eqb-true, eq-eqb}
+use borrow.Author.Tests.{eq-eqb, ne-eqb}
 use Rattle.pattern.specs.declared.slot.Slot.{Slot}
 use Rattle.pattern.specs.declared.Pattern.{Pattern}
 use Rattle.basics.specs.Laws.Choice.{is-false}
@@ -44,7 +43,7 @@ module _ (t : List ℕ) {first place : ℕ} where
 
   pub sentence-more : SentenceFits t first place → (wordAt t place ≡ 0 → ⊥) → SentenceFits t first (place + 1)
   sentence-more u n x a b = elim (ℕ-discrete x place) [
-    | yes q ↦ rw q (is-false (eqb (wordAt t place) 0) (λ d. n (eqb-true (wordAt t place) 0 d)))
+    | yes q ↦ rw q (ne-eqb (wordAt t place) 0 n)
     | no q ↦ u x a (omega arith)
   ]
 

@@ -86,6 +86,19 @@ module _ {f : Pattern} {v : View} where
   unfolding NotAfter
   placed A P k h = omega (arith, A .above k h, P k h)
 
+  -- a place that no occurrence is before
+  pub raised-at : {p₀ p : List ℕ} {j r : ℕ} → Raised f v p₀ p → j < f .count → f .count ≤ 16 → at p j ≤ r
+      → ((q : List ℕ) → OccursIn f v q → NotAfter (f .count) p₀ q → r ≤ at q j) → Raised f v p₀ (set p j r)
+  unfolding NotAfter
+  raised-at {p₀} {p} {j} {r} S l few up beyond =
+      let z : j < length p = omega (arith, S .size) in
+      record {
+        size = length-set p j r ∙ S .size;
+        above = set-all (λ k x. at p₀ k ≤ x) (f .count) p j r z (S .above) (omega (arith, S .above j l));
+        rest = λ k h. getD-set-other p j k r 0 (λ e. omega arith) ∙ S .rest k h;
+        sound = λ q O B. set-all (λ k x. x ≤ at q k) (f .count) p j r z (S .sound q O B) (beyond q O B);
+      }
+
   module _ {p₀ p : List ℕ} {j r : ℕ} (S : Raised f v p₀ p) (W : Visited f v p j r) (l : j < f .count) where
     pub beyond : (q : List ℕ) → OccursIn f v q → NotAfter (f .count) p₀ q → r ≤ at q j
     beyond q O B = W .least (at q j) (allowed O p j l (S .sound q O B)) (O .fit j l)
@@ -94,15 +107,7 @@ module _ {f : Pattern} {v : View} where
     none h q O B = omega (arith, beyond q O B, O .inside j l)
 
     pub raised : f .count ≤ 16 → Raised f v p₀ (set p j r)
-    unfolding NotAfter
-    raised few =
-        let z : j < length p = omega (arith, S .size) in
-        record {
-          size = length-set p j r ∙ S .size;
-          above = set-all (λ k x. at p₀ k ≤ x) (f .count) p j r z (S .above) (omega (arith, S .above j l, W .bound .own));
-          rest = λ k h. getD-set-other p j k r 0 (λ e. omega arith) ∙ S .rest k h;
-          sound = λ q O B. set-all (λ k x. x ≤ at q k) (f .count) p j r z (S .sound q O B) (beyond q O B);
-        }
+    raised few = raised-at S l few (W .bound .own) beyond
 
     -- a place that is raised leaves less to raise
     pub less : Ready f (v .places) → r ≤ v .places → (r ≡ at p j → ⊥) → slack (set p j r) < slack p

@@ -1,4 +1,4 @@
--- The rounds over the slots: when no slot of the last round asks more, the row is an occurrence wherever sentences end, and the earliest.
+-- The rounds over the slots: when no slot of the last round asks more, the row is the earliest occurrence, as if no sentence ended.
 -- Assumes nothing.
 use Prim.Native.Nat.{ℕ, _+_, _-_, _≤_, _<_}
 use mathlib.Core.List.{List}

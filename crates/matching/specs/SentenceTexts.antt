@@ -46,6 +46,14 @@ text-after-first = 1 ∷ 0 ∷ 6 ∷ 2 ∷ []
 unfoldable pub text-before-last : List ℕ
 text-before-last = 1 ∷ 6 ∷ 0 ∷ 2 ∷ []
 
+-- a.x.b
+unfoldable pub text-two-stops : List ℕ
+text-two-stops = 1 ∷ 0 ∷ 6 ∷ 0 ∷ 2 ∷ []
+
+-- a..ab
+unfoldable pub text-empty-sentence : List ℕ
+text-empty-sentence = 1 ∷ 0 ∷ 0 ∷ 1 ∷ 2 ∷ []
+
 -- .axb.
 unfoldable pub text-outside : List ℕ
 text-outside = 0 ∷ 1 ∷ 6 ∷ 2 ∷ 0 ∷ []
@@ -96,6 +104,16 @@ pub record SentenceTexts : Type 0 where
   -- right before the last
   pub before-last : Results pattern-pair text-before-last [] [] [] 0 0
   pub before-last-not : Occurs pattern-pair text-before-last (1 ∷ 4 ∷ []) → ⊥
+  -- two of them inside a row
+  pub two-stops : Results pattern-pair text-two-stops [] [] [] 0 0
+  pub two-stops-not : Occurs pattern-pair text-two-stops (1 ∷ 5 ∷ []) → ⊥
+  -- one right after the other, an empty sentence between them
+  pub empty-sentence : Results pattern-pair text-empty-sentence
+      ((4 ∷ 5 ∷ []) ∷ [])
+      ((4 ∷ 5 ∷ []) ∷ [])
+      ((4 ∷ 5 ∷ []) ∷ [])
+      1 1
+  pub empty-sentence-not : Occurs pattern-pair text-empty-sentence (1 ∷ 5 ∷ []) → ⊥
   -- just before the first place and just after the last
   pub outside : Results pattern-pair text-outside
       ((2 ∷ 4 ∷ []) ∷ [])
@@ -128,12 +146,13 @@ pub record SentenceTexts : Type 0 where
       ((1 ∷ 3 ∷ 5 ∷ []) ∷ (2 ∷ 4 ∷ 7 ∷ []) ∷ (9 ∷ 10 ∷ 11 ∷ []) ∷ [])
       ((1 ∷ 3 ∷ 5 ∷ []) ∷ (2 ∷ 4 ∷ 7 ∷ []) ∷ (9 ∷ 10 ∷ 11 ∷ []) ∷ [])
       3 7
-  -- spans that bind; the last row has the span and breaks the sentence
+  -- spans that bind
   pub spanned : Results pattern-spanned text-spanned
       ((1 ∷ 3 ∷ 4 ∷ []) ∷ (6 ∷ 7 ∷ 9 ∷ []) ∷ [])
       ((1 ∷ 3 ∷ 4 ∷ []) ∷ (6 ∷ 7 ∷ 9 ∷ []) ∷ [])
       ((1 ∷ 3 ∷ 4 ∷ []) ∷ (6 ∷ 7 ∷ 9 ∷ []) ∷ [])
       2 2
+  -- the span is right, the sentence is broken
   pub spanned-not : Occurs pattern-spanned text-spanned (10 ∷ 11 ∷ 13 ∷ []) → ⊥
   -- a full stop between the places of two inner slots
   pub inner : Results pattern-inner text-inner

@@ -7,12 +7,7 @@ use Rattle.pattern.specs.declared.Pattern.{Pattern}
 use Rattle.pattern.specs.Patterns.{slotAt}
 use Rattle.matching.specs.Occurrence.{View}
 
--- ---- distances, by the gaps
-
--- the distance from the first place to that at slot k, where the gap before each slot j has `gap j` words
-unfoldable pub distance : (ℕ → ℕ) → ℕ → ℕ
-distance gap zero = 0
-distance gap (suc k) = distance gap k + gap (suc k) + 1
+-- ---- the sentence of a place
 
 -- the first of the n places past p at which a sentence ends, or the last of them
 unfoldable pub nextEnd : (ℕ → Bool) → ℕ → ℕ → ℕ
@@ -26,6 +21,13 @@ horizon v p = nextEnd (v .ends) (v .places - p) p
 -- none of m slots fits a place at which a sentence ends
 pub record NoEndFits (m : ℕ) (v : View) : Type 0 where
   pub unfit : (j : ℕ) → j < m → (p : ℕ) → v .fits j p ≡ true → v .ends p ≡ false
+
+-- ---- distances, by the gaps
+
+-- the distance from the first place to that at slot k, where the gap before each slot j has `gap j` words
+unfoldable pub distance : (ℕ → ℕ) → ℕ → ℕ
+distance gap zero = 0
+distance gap (suc k) = distance gap k + gap (suc k) + 1
 
 module _ (f : Pattern) where
   -- the least distance from the first place to the place at slot k

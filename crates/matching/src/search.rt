@@ -51,7 +51,7 @@ fn visit(
     first(&laid[at..at + 11], text, mirrored, from)
 }
 
-// Raises the row to the earliest occurrence at or after it, wherever sentences end, if there is one: the slots are visited in turn
+// Raises the row to the earliest occurrence at or after it, as if no sentence ended, if there is one: the slots are visited in turn
 // until none asks more.
 fn settle(
     laid: &[u16],
@@ -103,8 +103,8 @@ fn start(m: usize, n: usize, p: &mut [u16]) -> bool
     true
 }
 
-// Raises the row to the earliest occurrence at or after it, if there is one: where a sentence ends inside a row, none starts before
-// that place. None ends past the row's first place and before `clear`.
+// Raises the row to the earliest occurrence at or after it, if there is one: where a sentence ends inside a row, no occurrence starts
+// before that place. No sentence ends past the row's first place and before `clear`.
 fn keep(
     laid: &[u16],
     m: usize,

@@ -49,35 +49,35 @@ fn built(line: [u16; 14]) -> Pattern {
 
 // The words of text number k, counted from 0, with zeros after them.
 fn words_of(k: usize) -> [u16; 16]
-    requires { ⌜ k < 12 ⌝ }
+    requires { ⌜ k < 14 ⌝ }
 {
     WORDS[k]
 }
 
 // How many words text number k has.
 fn length_of(k: usize) -> usize
-    requires { ⌜ k < 12 ⌝ }
+    requires { ⌜ k < 14 ⌝ }
 {
     LENGTHS[k]
 }
 
 // The pattern of text number k.
 fn pattern_of(k: usize) -> Pattern
-    requires { ⌜ k < 12 ⌝ }
+    requires { ⌜ k < 14 ⌝ }
 {
     built(PATTERNS[k])
 }
 
 // The row of text number k.
 fn row_of(k: usize) -> [u16; 4]
-    requires { ⌜ k < 12 ⌝ }
+    requires { ⌜ k < 14 ⌝ }
 {
     ROWS[k]
 }
 
 // The case of text number k.
 pub fn case_of(k: usize) -> Case
-    requires { ⌜ k < 12 ⌝ }
+    requires { ⌜ k < 14 ⌝ }
 {
     Case {
         words: words_of(k),

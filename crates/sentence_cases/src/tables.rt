@@ -1,7 +1,8 @@
-// The texts with sentence ends of matching/specs/SentenceTexts.antt, in its order: a line for a text. The letters a, b, c and x are the words 1, 2, 3 and 6, a full stop the word 0.
+// The texts with sentence ends of matching/specs/SentenceTexts.antt, in its order: a line for a text.
+// The letters a, b, c and x are the words 1, 2, 3 and 6, a full stop the word 0.
 
 // Each text's words, with zeros after them that are no part of it.
-pub(crate) const WORDS: [[u16; 16]; 12] = [
+pub(crate) const WORDS: [[u16; 16]; 14] = [
     // xa.bx
     [6, 1, 0, 2, 6, 0, 0, 0, 0, 0, 0, 0, 0, 0, 0, 0],
     // xabx
@@ -10,6 +11,10 @@ pub(crate) const WORDS: [[u16; 16]; 12] = [
     [1, 0, 6, 2, 0, 0, 0, 0, 0, 0, 0, 0, 0, 0, 0, 0],
     // ax.b
     [1, 6, 0, 2, 0, 0, 0, 0, 0, 0, 0, 0, 0, 0, 0, 0],
+    // a.x.b
+    [1, 0, 6, 0, 2, 0, 0, 0, 0, 0, 0, 0, 0, 0, 0, 0],
+    // a..ab
+    [1, 0, 0, 1, 2, 0, 0, 0, 0, 0, 0, 0, 0, 0, 0, 0],
     // .axb.
     [0, 1, 6, 2, 0, 0, 0, 0, 0, 0, 0, 0, 0, 0, 0, 0],
     // a.ab
@@ -29,11 +34,14 @@ pub(crate) const WORDS: [[u16; 16]; 12] = [
 ];
 
 // How many words each text has.
-pub(crate) const LENGTHS: [usize; 12] = [5, 4, 4, 4, 5, 4, 4, 11, 11, 13, 8, 6];
+pub(crate) const LENGTHS: [usize; 14] = [5, 4, 4, 4, 5, 5, 5, 4, 4, 11, 11, 13, 8, 6];
 
-// The span limits of each pattern, then low, high and word of each slot, with zeros after the last: a slot with the word 0 is refused and changes nothing.
-pub(crate) const PATTERNS: [[u16; 14]; 12] = [
-    // a[0,3]b, for seven texts
+// The span limits of each pattern, then low, high and word of each slot, with zeros after the last: a slot with the word 0 is refused
+// and changes nothing.
+pub(crate) const PATTERNS: [[u16; 14]; 14] = [
+    // a[0,3]b, for nine texts
+    [1, 20000, 0, 0, 1, 0, 3, 2, 0, 0, 0, 0, 0, 0],
+    [1, 20000, 0, 0, 1, 0, 3, 2, 0, 0, 0, 0, 0, 0],
     [1, 20000, 0, 0, 1, 0, 3, 2, 0, 0, 0, 0, 0, 0],
     [1, 20000, 0, 0, 1, 0, 3, 2, 0, 0, 0, 0, 0, 0],
     [1, 20000, 0, 0, 1, 0, 3, 2, 0, 0, 0, 0, 0, 0],
@@ -53,11 +61,13 @@ pub(crate) const PATTERNS: [[u16; 14]; 12] = [
 ];
 
 // A row of each text to be tested, with zeros after it.
-pub(crate) const ROWS: [[u16; 4]; 12] = [
+pub(crate) const ROWS: [[u16; 4]; 14] = [
     [2, 4, 0, 0],
     [2, 3, 0, 0],
     [1, 4, 0, 0],
     [1, 4, 0, 0],
+    [1, 5, 0, 0],
+    [1, 5, 0, 0],
     [2, 4, 0, 0],
     [1, 4, 0, 0],
     [1, 4, 0, 0],

@@ -1,4 +1,4 @@
--- Two texts with a sentence end between them: each occurrence lies in one of the two, so the tally of the joined text is their sum.
+-- Two texts with a sentence end between them: each occurrence lies in one of the two, so the tally of the joined text is the sum of theirs.
 use Prim.Native.Nat.{ℕ, _+_}
 use mathlib.Core.Path.{_≡_, ap, _∙_}
 use mathlib.Core.List.{List, _∷_, _++_}
@@ -13,7 +13,7 @@ use Rattle.matching.specs.Laws.Joining.{joined-input, joined-tally}
 use Rattle.counting.specs.Answers.{totalOf, talliedAfter, tallied}
 
 -- what `tally` answers for the two texts are the answers for two numbers, and for the joined text that for their sum; an answer is 9
--- exactly if its number is over
+-- exactly if its number is over 2 ^ 64 - 1
 pub record TalliesAdd (f : Pattern) (t u : List ℕ) : Type 0 where
   pub first : ℕ
   pub second : ℕ

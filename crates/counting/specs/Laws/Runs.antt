@@ -22,6 +22,7 @@ gather-split (suc a) b (suc k) g x y e d =
     ap (λ (R : List (List ℕ)). g x ++ R) (gather-split a b k g (suc x) y (omega arith) (omega arith))
     ∙ sym (append-assoc (g x) (gather g (places (suc x) a)) (gather g (places y b)))
 
+-- two functions that agree, each from its own place on
 pub gather-same : (n : ℕ) (g h : ℕ → List (List ℕ)) (x y : ℕ) → ((k : ℕ) → k < n → g (x + k) ≡ h (y + k)) → gather g (places x n) ≡ gather h (places y n)
 unfolding gather places
 gather-same zero g h x y e = refl
@@ -40,6 +41,9 @@ module _ (g : ℕ → List (List ℕ)) (x y : ℕ) where
   pub run-split : (z : ℕ) → x ≤ y → y ≤ z → run g x z ≡ run g x y ++ run g y z
   unfolding run
   run-split z a b = gather-split (y - x) (z - y) (z - x) g x y (omega arith) (omega arith)
+
+  pub length-run : (z : ℕ) → x ≤ y → y ≤ z → length (run g x z) ≡ length (run g x y) + length (run g y z)
+  length-run z a b = ap length (run-split z a b) ∙ length-append (run g x y) (run g y z)
 
   pub run-none : ((q : ℕ) → x ≤ q → q < y → g q ≡ []) → run g x y ≡ []
   unfolding run

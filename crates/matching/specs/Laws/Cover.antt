@@ -92,7 +92,7 @@ module _ (f : Pattern) where
       back = λ r q one inside.
           let last = part-last f v (limit f v (at r 0)) (least f (at r 0)) q in
           let below = part-below q (f .count - 1) (omega arith) .0 in
-          let near = horizon-past v inside in
+          let start = horizon-past v inside in
           let end = horizon-inside v inside in
           back r q one (λ i. omega arith) (omega arith, omega arith) (horizon-unbroken v inside (omega arith));
     }

@@ -91,7 +91,7 @@ module _ (f : Pattern) {v w x : View} (J : Joined (f .count) v w x) (some : 1 �
   lies-occurs (in-first O) = first-whole O
   lies-occurs (in-second O) = second-whole O
 
-  -- every occurrence lies in one of the two views
+  -- a row occurs in the whole exactly if it lies in one of the two views
   pub joined-iff : (s : List ℕ) → OccursIn f x s ↔ Lies f v w s
   joined-iff s = (occurs-lies, lies-occurs)
 
@@ -113,8 +113,8 @@ module _ (f : Pattern) {v w x : View} (J : Joined (f .count) v w x) (some : 1 �
       (every-map (λ r O. map-every (shifted n) (λ s Q. lex-first r (shifted n s) (omega (arith, O .size)) (omega (arith, second-whole Q .size)) (second-later O Q 0 some)) (occurrences-occur f w)) (occurrences-occur f v))
 
   -- those of v, then those of w, shifted
-  pub occurrences-joined : occurrencesIn f x ≡ occurrencesIn f v ++ map (shifted (v .places + 1)) (occurrencesIn f w)
-  occurrences-joined =
+  pub occurrencesIn-joined : occurrencesIn f x ≡ occurrencesIn f v ++ map (shifted (v .places + 1)) (occurrencesIn f w)
+  occurrencesIn-joined =
       lex-unique (occurrences-lex f x) listed-lex
       (λ s i. lies-listed (occurs-lies (occurrences-iff f x s .0 i)))
       (λ s i. occurrences-iff f x s .1 (lies-occurs (every-mem listed-lie i)))
@@ -174,8 +174,8 @@ module _ (f : Pattern) {v w x : View} (J : Joined (f .count) v w x) (some : 1 �
       (greedy-joined (λ j h. N .hit .inside j h .1) F G)
 
   -- that of v, then that of w, shifted
-  pub leftmost-joined : leftmostIn f x ≡ leftmostIn f v ++ map (shifted (v .places + 1)) (leftmostIn f w)
-  leftmost-joined = sym (front-unique f x some
+  pub leftmostIn-joined : leftmostIn f x ≡ leftmostIn f v ++ map (shifted (v .places + 1)) (leftmostIn f w)
+  leftmostIn-joined = sym (front-unique f x some
       (greedy-joined (λ j h. omega (arith, at-level (f .count) 0 j h)) (leftmost-front f v some) (leftmost-front f w some)))
 
 -- ---- two texts
@@ -225,11 +225,11 @@ module _ {f : Pattern} (ok : Accepted f) (t u : List ℕ) where
 
   -- all occurrences of the joined text are those of the first, then those of the second, shifted
   pub joined-occurrences : occurrences f (t ++ 0 ∷ u) ≡ occurrences f t ++ map (shifted (length t + 1)) (occurrences f u)
-  joined-occurrences = occurrences-joined f plain-joined (ok .some)
+  joined-occurrences = occurrencesIn-joined f plain-joined (ok .some)
 
   -- and so is its front list
   pub joined-leftmost : leftmost f (t ++ 0 ∷ u) ≡ leftmost f t ++ map (shifted (length t + 1)) (leftmost f u)
-  joined-leftmost = leftmost-joined f plain-joined (ok .some)
+  joined-leftmost = leftmostIn-joined f plain-joined (ok .some)
 
   -- the tally is the sum of the two
   pub joined-tally : length (occurrences f (t ++ 0 ∷ u)) ≡ length (occurrences f t) + length (occurrences f u)

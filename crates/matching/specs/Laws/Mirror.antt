@@ -95,9 +95,11 @@ module _ {f : Pattern} {v : View} {g : Pattern} {u : View} (F : Facing f v g u) 
           let e : i + 0 + 1 ≡ m = omega arith in
           let e' : 0 + i + 1 ≡ m = omega arith in
           let b' = rw c at b in
-          let y = n + 1 - x in
-          F .ends x y (omega (arith, turned i 0 e, turned 0 i e', O .inside 0 some, O .inside i (omega arith))) (omega arith) (omega (arith, turned i 0 e, turned 0 i e', O .inside 0 some, O .inside i (omega arith)))
-          ∙ O .sentence y (omega (arith, turned i 0 e, turned 0 i e', O .inside 0 some, O .inside i (omega arith))) (omega (arith, turned i 0 e, turned 0 i e', O .inside 0 some, O .inside i (omega arith)));
+          let first = turned i 0 e in
+          let last = turned 0 i e' in
+          let start = O .inside 0 some in
+          let end = O .inside i (omega arith) in
+          F .ends x (n + 1 - x) (omega arith) (omega arith) (omega arith) ∙ O .sentence (n + 1 - x) (omega arith) (omega arith);
     }
 
 -- ---- the nearest from here and from there

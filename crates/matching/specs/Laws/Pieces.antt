@@ -14,7 +14,7 @@ use Rattle.matching.specs.Occurrences.{Lex, here, after}
 abbrev pub shifted : ℕ → List ℕ → List ℕ
 shifted n r = map (λ p. p + n) r
 
--- to a pattern of m slots, the view v is what x has after its first n places
+-- to a pattern of m slots, the view v is a stretch of x: the places after its first n
 pub record Piece (m n : ℕ) (v x : View) : Type 0 where
   pub room : v .places + n ≤ x .places
   pub fits : (j : ℕ) → j < m → (p q : ℕ) → q ≡ p + n → 1 ≤ p → p ≤ v .places → x .fits j q ≡ v .fits j p

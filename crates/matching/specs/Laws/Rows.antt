@@ -1,4 +1,4 @@
--- Laws of the rows' order and of the lattice of the pointwise minimum and maximum.
+-- Laws of the rows' order, of the places of a row, and of the lattice of the pointwise minimum and maximum.
 use Prim.Native.Nat.{ℕ, zero, suc, _+_, _-_, _≤_, _<_, min, max}
 use native.Mathlib.Omega.{arith}
 use mathlib.Core.Path.{_≡_, refl}
@@ -24,8 +24,8 @@ module _ {m : ℕ} (r : List ℕ) (rise : (j : ℕ) → j + 1 < m → at r j ≤
 
 -- the places of an occurrence lie between its first and its last
 pub occurs-between : {f : Pattern} {v : View} {r : List ℕ} → OccursIn f v r → (j : ℕ) → j < f .count → (at r 0 ≤ at r j) × (at r j ≤ at r (f .count - 1))
-occurs-between {r = r} O j h =
-    let rise : (k : ℕ) → k + 1 < _ → at r k ≤ at r (k + 1) = λ k l. omega (arith, O .gap k l) in
+occurs-between {f} {r = r} O j h =
+    let rise : (k : ℕ) → k + 1 < f .count → at r k ≤ at r (k + 1) = λ k l. omega (arith, O .gap k l) in
     (row-rises r rise (omega arith) h, row-rises r rise (omega arith) (omega arith))
 
 -- ---- the earlier place, and the later place, at each slot

@@ -16,7 +16,7 @@ use Rattle.matching.specs.Lists.{onward, follow}
 use Rattle.matching.specs.Branches.{stands, branches}
 use Rattle.matching.specs.Spans.{distance, width, nextEnd, horizon, limit, least}
 use Rattle.matching.specs.Texts.{oneWord, patternOf, Results}
-use Rattle.matching.specs.SentenceTexts.{text-parted, text-whole, text-after-first, text-before-last, text-outside, text-later, text-later-open, text-several, text-several-open, text-spanned, text-inner, text-single, pattern-pair, pattern-triple, pattern-spanned, pattern-inner, pattern-single, SentenceTexts}
+use Rattle.matching.specs.SentenceTexts.{text-parted, text-whole, text-after-first, text-before-last, text-two-stops, text-empty-sentence, text-outside, text-later, text-later-open, text-several, text-several-open, text-spanned, text-inner, text-single, pattern-pair, pattern-triple, pattern-spanned, pattern-inner, pattern-single, SentenceTexts}
 use Rattle.matching.specs.Laws.Tests.{occurs-iff}
 use Rattle.matching.specs.Laws.Branches.{tree, forest}
 use Rattle.matching.specs.Laws.Cover.{occurrences-each}
@@ -69,6 +69,34 @@ before-last = results hits-before-last refl refl refl refl refl
 before-last-not : Occurs pattern-pair text-before-last (1 ∷ 4 ∷ []) → ⊥
 unfolding pattern-pair text-before-last patternOf oneWord occursIn within each unbroken takes member
 before-last-not o = true≢false (sym (occurs-iff pattern-pair (plain pattern-pair text-before-last) (1 ∷ 4 ∷ []) .1 o))
+
+hits-two-stops : occurrences pattern-pair text-two-stops ≡ []
+unfolding pattern-pair text-two-stops patternOf oneWord forest tree gather places branches only stands takes member distance width nextEnd horizon limit least
+hits-two-stops = occurrences-each pattern-pair (plain pattern-pair text-two-stops) (lit≤ tt) (lit≤ tt)
+
+two-stops : Results pattern-pair text-two-stops [] [] [] 0 0
+unfolding pattern-pair text-two-stops patternOf oneWord inputVerdict patternVerdict slotsVerdict slotVerdict spanVerdict takes member follow onward earliestOf latestOf extreme nearest select keep before each meet join
+two-stops = results hits-two-stops refl refl refl refl refl
+
+two-stops-not : Occurs pattern-pair text-two-stops (1 ∷ 5 ∷ []) → ⊥
+unfolding pattern-pair text-two-stops patternOf oneWord occursIn within each unbroken takes member
+two-stops-not o = true≢false (sym (occurs-iff pattern-pair (plain pattern-pair text-two-stops) (1 ∷ 5 ∷ []) .1 o))
+
+hits-empty-sentence : occurrences pattern-pair text-empty-sentence ≡ (4 ∷ 5 ∷ []) ∷ []
+unfolding pattern-pair text-empty-sentence patternOf oneWord forest tree gather places branches only stands takes member distance width nextEnd horizon limit least
+hits-empty-sentence = occurrences-each pattern-pair (plain pattern-pair text-empty-sentence) (lit≤ tt) (lit≤ tt)
+
+empty-sentence : Results pattern-pair text-empty-sentence
+    ((4 ∷ 5 ∷ []) ∷ [])
+    ((4 ∷ 5 ∷ []) ∷ [])
+    ((4 ∷ 5 ∷ []) ∷ [])
+    1 1
+unfolding pattern-pair text-empty-sentence patternOf oneWord inputVerdict patternVerdict slotsVerdict slotVerdict spanVerdict takes member follow onward earliestOf latestOf extreme nearest select keep before each meet join
+empty-sentence = results hits-empty-sentence refl refl refl refl refl
+
+empty-sentence-not : Occurs pattern-pair text-empty-sentence (1 ∷ 5 ∷ []) → ⊥
+unfolding pattern-pair text-empty-sentence patternOf oneWord occursIn within each unbroken takes member
+empty-sentence-not o = true≢false (sym (occurs-iff pattern-pair (plain pattern-pair text-empty-sentence) (1 ∷ 5 ∷ []) .1 o))
 
 hits-outside : occurrences pattern-pair text-outside ≡ (2 ∷ 4 ∷ []) ∷ []
 unfolding pattern-pair text-outside patternOf oneWord forest tree gather places branches only stands takes member distance width nextEnd horizon limit least
@@ -191,6 +219,10 @@ sentence-texts = record {
   after-first-not = after-first-not;
   before-last = before-last;
   before-last-not = before-last-not;
+  two-stops = two-stops;
+  two-stops-not = two-stops-not;
+  empty-sentence = empty-sentence;
+  empty-sentence-not = empty-sentence-not;
   outside = outside;
   later = later;
   later-not = later-not;

@@ -1,4 +1,4 @@
--- Where sentences end: what the horizon of a place is, and a row keeps to one sentence if any two neighbouring places of it do.
+-- Where sentences end: what the horizon of a place is; and a row keeps to one sentence exactly if any two neighbouring places of it do.
 use Prim.Native.Nat.{ℕ, zero, suc, _+_, _-_, _≤_, _<_}
 use native.Mathlib.Decide.{ℕ-discrete, decLt}
 use native.Mathlib.Omega.{arith}
@@ -6,10 +6,8 @@ use mathlib.Core.Path.{_≡_, refl, sym, ap, _∙_}
 use mathlib.Core.Logic.{_↔_}
 use mathlib.Core.Bool.{Bool, true, false, true≢false}
 use mathlib.Core.List.{List}
-use lib.Dec.{eqb}
-use borrow.Author.Tests.{eqb-true}
+use borrow.Author.Tests.{ne-eqb}
 use Rattle.basics.specs.Choice.{pick}
-use Rattle.basics.specs.Laws.Choice.{is-false}
 use Rattle.pattern.specs.declared.slot.Slot.{Slot}
 use Rattle.pattern.specs.declared.Pattern.{Pattern}
 use Rattle.pattern.specs.Patterns.{takes, slotAt}
@@ -25,7 +23,7 @@ use Rattle.matching.specs.Spans.{nextEnd, horizon, NoEndFits}
 pub record NextEnd (ends : ℕ → Bool) (n p h : ℕ) : Type 0 where
   pub past : p ≤ h
   pub within : h ≤ p + n
-  pub clear : (x : ℕ) → p < x → x < h → ends x ≡ false
+  pub clear : Unbroken ends p h
   pub stop : h < p + n → (p < h) × (ends h ≡ true)
 
 module _ (ends : ℕ → Bool) where
@@ -81,12 +79,13 @@ horizon-same v {p} {q} l h short =
 
 -- ---- a row of neighbours
 
-word-on : (s : Slot) (w : ℕ) → takes s 0 ≡ false → takes s w ≡ true → eqb w 0 ≡ false
-word-on s w z e = is-false (eqb w 0) (λ d. true≢false (sym e ∙ ap (takes s) (eqb-true w 0 d) ∙ z))
+-- a word that the slot takes is not 0, where it does not take that
+taken-nonzero : (s : Slot) {w : ℕ} → takes s 0 ≡ false → takes s w ≡ true → w ≡ 0 → ⊥
+taken-nonzero s z e d = true≢false (sym e ∙ ap (takes s) d ∙ z)
 
 -- an accepted pattern takes no sentence end
 pub accepted-no-end : {f : Pattern} → Accepted f → (t : List ℕ) → NoEndFits (f .count) (plain f t)
-accepted-no-end {f} ok t = record { unfit = λ j h p e. word-on (slotAt f j) (wordAt t p) (takes-zero (slotAt f j) .1 (ok .slot j h .nonzero)) e }
+accepted-no-end {f} ok t = record { unfit = λ j h p e. ne-eqb (wordAt t p) 0 (taken-nonzero (slotAt f j) (takes-zero (slotAt f j) .1 (ok .slot j h .nonzero)) e) }
 
 module _ {m : ℕ} {v : View} (no-end : NoEndFits m v) (r : List ℕ) (fit : (j : ℕ) → j < m → v .fits j (at r j) ≡ true) (rise : (j : ℕ) → j + 1 < m → at r j < at r (j + 1)) where
   neighbours : ((j : ℕ) → j + 1 < m → Unbroken (v .ends) (at r j) (at r (j + 1))) → (k : ℕ) → k < m → Unbroken (v .ends) (at r 0) (at r k)
@@ -110,7 +109,7 @@ module _ {m : ℕ} {v : View} (no-end : NoEndFits m v) (r : List ℕ) (fit : (j 
     λ u. neighbours u (m - 1) (omega arith),
   )
 
--- so does a row that rises and fits an accepted pattern in a text
+-- of a text and a row that rises and fits an accepted pattern
 pub accepted-neighbours : {f : Pattern} → Accepted f → (t r : List ℕ) → ((j : ℕ) → j < f .count → plain f t .fits j (at r j) ≡ true) → ((j : ℕ) → j + 1 < f .count → at r j < at r (j + 1))
     → Unbroken (endsAt t) (at r 0) (at r (f .count - 1)) ↔ ((j : ℕ) → j + 1 < f .count → Unbroken (endsAt t) (at r j) (at r (j + 1)))
 accepted-neighbours ok t r fit rise = neighbours-iff (accepted-no-end ok t) r fit rise (ok .some)

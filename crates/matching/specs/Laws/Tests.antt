@@ -36,7 +36,7 @@ unfolding each
 each-same zero p q h = refl
 each-same (suc n) p q h = rw (h n (omega arith), each-same n p q (λ j l. h j (omega arith)))
 
-pub unbroken-iff : (ends : ℕ → Bool) (p q : ℕ) → (unbroken ends p q ≡ true) ↔ Unbroken ends p q
+unbroken-iff : (ends : ℕ → Bool) (p q : ℕ) → (unbroken ends p q ≡ true) ↔ Unbroken ends p q
 unfolding unbroken
 unbroken-iff ends p q = (
   λ e x l h. let d : p + (x - p - 1) + 1 ≡ x = omega arith in

@@ -1,4 +1,4 @@
--- What the steps on one slot come to, in plain numbers: the least place that has a property.
+-- What the steps on one slot come to, in plain numbers: the least place that has a property; and the last at which a sentence ends.
 use Prim.Native.Nat.{ℕ, _+_, _-_, _≤_, _<_}
 use mathlib.Core.Bool.{Bool, true, false}
 use mathlib.Core.Path.{_≡_}

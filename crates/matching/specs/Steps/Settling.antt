@@ -21,7 +21,7 @@ pub record Ready (f : Pattern) (n : ℕ) : Type 0 where
   pub least : 1 ≤ f .least
   pub short : n ≤ 20000
 
--- the view of a text whose sentences never end
+-- the view as if no sentence ended
 abbrev pub loose : View → View
 loose v = record { places = v .places; fits = v .fits; ends = λ p. false }
 

@@ -1,14 +1,14 @@
--- `sentence_cases::main` is safe and ends: there are twelve texts.
+-- `sentence_cases::main` is safe and ends: there are fourteen texts.
 use borrow.Author.Needs.{needs}
 use Prim.Native.Nat.{_≤_, _-_}
 use Rattle.sentence_cases.proofs.main.Statement.{statement}
 use Rattle.sentence_cases.proofs.main.Tie as tie
 
 abbrev Inv-loop : tie.InvT-loop
-Inv-loop k₀ k = k ≤ 12
+Inv-loop k₀ k = k ≤ 14
 
 abbrev μ-loop : tie.MeasureT-loop
-μ-loop k₀ k = 12 - k
+μ-loop k₀ k = 14 - k
 
 loop-holds : tie.Need-loop-holds Inv-loop μ-loop
 loop-holds c = search needs

@@ -59,7 +59,7 @@ abbrev listing : (c : tie.In-loop Inv-loop μ-loop) (g : Given (start (c .before
     → Listing (planPattern (g .parts .plan)) (planView (g .parts .plan)) (start (c .before) .args .list .now) (c .before .loop .i) (c .before .loop .rows) (c .before .loop .list)
 listing c g = c .before .loop .inv .3 g
 
--- a row from there can go to a place past it, in the text
+-- the last place that a row from there can have is past its index, in the text
 inside : (c : tie.After-widen Inv-loop μ-loop) → (loop-of c .loop .i < c .widen .result) × (c .widen .result ≤ start (loop-of c) .args .n)
 inside c = last-inside (start (loop-of c) .pre .0 .parts .horizons) (turn-of c .loop-test .taken) (c .widen .ensures .0)
 
@@ -92,7 +92,7 @@ module _ (c : tie.After-walk-arg2 Inv-loop μ-loop) (g : Given (start (loop-of (
   walked =
       let t = turn-of (widen-at c) in
       let i = t .loop-test .taken in
-      window-walk (g .parts .plan .handed .input) (listing t g) i (window (smaller-at c)) (omega arith) (omega arith) (omega arith) rows leads (g .room)
+      window-walk (g .parts .plan .handed .input) (listing t g) (window (smaller-at c)) (omega arith) (omega arith) (omega arith) rows leads (g .room)
 
 loop-holds : tie.Need-loop-holds Inv-loop μ-loop
 loop-holds c = (refl, refl, refl, λ g. listing-begin)
@@ -156,7 +156,7 @@ loop-again c =
       reach-at (w .before) .reach-all .kept .1 .1 .1 .1 .1 .1 .0 ∙ v .0,
       kept .0 ∙ v .1,
       kept .1 .1 .0 ∙ v .2,
-      λ g. listing-more (g .parts .plan .handed .input) (listing t g) i (window (smaller-at (w .before))) (omega arith) (omega arith) (omega arith) (rows (w .before) g) (leads (w .before) g) (g .room) (kept .1 .1 .0) (w .walk .ensures .0 (walked (w .before) g)),
+      λ g. listing-more (g .parts .plan .handed .input) (listing t g) (window (smaller-at (w .before))) (omega arith) (omega arith) (omega arith) (rows (w .before) g) (leads (w .before) g) (g .room) (kept .1 .1 .0) (w .walk .ensures .0 (walked (w .before) g)),
     )
 
 add-i-2 : tie.Need-add-i-2 Inv-loop μ-loop

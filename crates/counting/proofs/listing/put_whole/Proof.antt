@@ -16,7 +16,7 @@ use Rattle.counting.proofs.listing.put_whole.Statement.{statement}
 use Rattle.counting.proofs.listing.put_whole.Tie as tie
 
 abbrev Inv-loop : tie.InvT-loop
-Inv-loop low high m reach fits lasts n next₀ list₀ row₀ rows₀ i₀ next list row rows i = (length next ≡ length next₀) × (length row ≡ 16) × (length list ≡ length list₀) × (i ≤ n)
+Inv-loop low high m reach fits lasts n next₀ list₀ row₀ rows₀ i₀ next list row rows i = (length next ≡ length next₀) × (length row ≡ 16) × (length list ≡ length list₀)
     × ((g : PutWhole m n reach low high fits lasts (length list₀)) → Listing (planPattern (g .parts .plan)) (planView (g .parts .plan)) list₀ i rows list)
 
 abbrev μ-loop : tie.MeasureT-loop
@@ -53,9 +53,9 @@ Given c = PutWhole (c .args .m) (c .args .n) (c .args .reach) (c .args .low .now
 -- what a turn begins with
 abbrev listing : (c : tie.In-loop Inv-loop μ-loop) (g : Given (start (c .before)))
     → Listing (planPattern (g .parts .plan)) (planView (g .parts .plan)) (start (c .before) .args .list .now) (c .before .loop .i) (c .before .loop .rows) (c .before .loop .list)
-listing c g = c .before .loop .inv .4 g
+listing c g = c .before .loop .inv .3 g
 
--- the sentence ends past its first place, in the text
+-- the sentence ends past the index of its first place, in the text
 inside : (c : tie.After-widen Inv-loop μ-loop) → (loop-of c .loop .i < c .widen .result) × (c .widen .result ≤ start (loop-of c) .args .n)
 inside c = last-inside (start (loop-of c) .pre .0 .parts .horizons) (turn-of c .loop-test .taken) (c .widen .ensures .0)
 
@@ -91,12 +91,12 @@ module _ (c : tie.After-walk-arg Inv-loop μ-loop) (g : Given (start (loop-of (w
       let e = widen-at c in
       let t = turn-of e in
       let h = inside e in
-      window-walk (g .parts .plan .handed .input) (listing t g) (t .loop-test .taken) (window e) (h .0) (h .1) (last e) rows leads (g .room)
+      window-walk (g .parts .plan .handed .input) (listing t g) (window e) (h .0) (h .1) (last e) rows leads (g .room)
 
 -- ----
 
 loop-holds : tie.Need-loop-holds Inv-loop μ-loop
-loop-holds c = (refl, refl, refl, omega arith, λ g. listing-begin)
+loop-holds c = (refl, refl, refl, λ g. listing-begin)
 
 mul-widen : tie.Need-mul-widen Inv-loop μ-loop
 mul-widen c = search needs
@@ -146,8 +146,7 @@ loop-again c =
       reach-at a .reach-all .kept .1 .1 .1 .1 .1 .1 .0 ∙ v .0,
       kept .0 ∙ v .1,
       kept .1 .1 .0 ∙ v .2,
-      h .1,
-      λ g. listing-more (g .parts .plan .handed .input) (listing t g) (t .loop-test .taken) (window e) (h .0) (h .1) (last e) (rows a g) (leads a g) (g .room) (kept .1 .1 .0) (w .walk .ensures .0 (walked a g)),
+      λ g. listing-more (g .parts .plan .handed .input) (listing t g) (window e) (h .0) (h .1) (last e) (rows a g) (leads a g) (g .room) (kept .1 .1 .0) (w .walk .ensures .0 (walked a g)),
     )
 
 same-length : tie.Need-same-length Inv-loop μ-loop
@@ -157,7 +156,7 @@ same-length-2 : tie.Need-same-length-2 Inv-loop μ-loop
 same-length-2 c = c .before .loop .inv .2
 
 returns : tie.Need-returns Inv-loop μ-loop
-returns c = λ g. listing-done (g .parts .plan .handed .input) (c .before .loop .inv .4 g) (c .loop-test .left) (g .room)
+returns c = λ g. listing-done (g .parts .plan .handed .input) (c .before .loop .inv .3 g) (c .loop-test .left) (g .room)
 
 pub put-whole-spec : {M : Type 1} → statement M
 put-whole-spec =

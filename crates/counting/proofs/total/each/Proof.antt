@@ -43,7 +43,7 @@ loop-of c = test-of c .before
 abbrev ways-at : tie.After-y2 Inv-loop μ-loop → tie.After-ways Inv-loop μ-loop
 ways-at c = c .before .before
 
--- a row from there can go to a place past it, in the text
+-- the last place that a row from there can have is past its index, in the text
 inside : (c : tie.After-widen Inv-loop μ-loop) → (loop-of c .loop .i < c .widen .result) × (c .widen .result ≤ start (loop-of c) .args .n)
 inside c = last-inside (start (loop-of c) .pre .0 .horizons) (test-of c .loop-test .taken) (c .widen .ensures .0)
 

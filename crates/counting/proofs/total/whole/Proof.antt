@@ -13,7 +13,7 @@ use Rattle.counting.proofs.total.whole.Statement.{statement}
 use Rattle.counting.proofs.total.whole.Tie as tie
 
 abbrev Inv-loop : tie.InvT-loop
-Inv-loop low high m reach fits lasts n hi₀ lo₀ i₀ hi lo i = (i ≤ n) × (length hi ≡ length hi₀) × (length lo ≡ length lo₀)
+Inv-loop low high m reach fits lasts n hi₀ lo₀ i₀ hi lo i = (length hi ≡ length hi₀) × (length lo ≡ length lo₀)
     × ((g : Parted m n reach low high fits lasts) → unbound (planPattern (g .plan)) n ≡ true → Filled (planPattern (g .plan)) (planView (g .plan)) hi₀ lo₀ i hi lo)
 
 abbrev μ-loop : tie.MeasureT-loop
@@ -41,18 +41,18 @@ ways-at c = c .before .before .before .before
 
 -- ---- what is known there
 
--- the sentence ends past its first place, in the text
+-- the sentence ends past the index of its first place, in the text
 inside : (c : tie.After-widen Inv-loop μ-loop) → (loop-of c .loop .i < c .widen .result) × (c .widen .result ≤ start (loop-of c) .args .n)
 inside c = last-inside (start (loop-of c) .pre .0 .horizons) (turn-of c .loop-test .taken) (c .widen .ensures .0)
 
 -- both lists have room for the text's places and one more
 room : (c : tie.At-loop Inv-loop μ-loop) → (start c .args .n < length (c .loop .hi)) × (start c .args .n < length (c .loop .lo))
-room c = let r = start c .pre .1 in (omega (arith, c .loop .inv .1, r .high), omega (arith, c .loop .inv .2, r .low))
+room c = let r = start c .pre .1 in (omega (arith, c .loop .inv .0, r .high), omega (arith, c .loop .inv .1, r .low))
 
 -- ----
 
 loop-holds : tie.Need-loop-holds Inv-loop μ-loop
-loop-holds c = (omega arith, refl, refl, λ g spans. filled-begin)
+loop-holds c = (refl, refl, λ g spans. filled-begin)
 
 mul-widen : tie.Need-mul-widen Inv-loop μ-loop
 mul-widen c = search needs
@@ -119,11 +119,10 @@ loop-again c =
     let kept = u .ways .kept .1 .1 .1 .1 .1 .1 in
     let hi = same-len-mid (l .loop .i) (length (l .loop .hi) - l .loop .i) (l .loop .hi) (u .ways .last .1 .1 .1 .1 .1 .1 .0) (kept .0) in
     let lo = same-len-mid (l .loop .i) (length (l .loop .lo) - l .loop .i) (l .loop .lo) (u .ways .last .1 .1 .1 .1 .1 .1 .1 .0) (kept .1 .0) in (
-      omega (arith, inside w),
-      hi ∙ l .loop .inv .1,
-      lo ∙ l .loop .inv .2,
+      hi ∙ l .loop .inv .0,
+      lo ∙ l .loop .inv .1,
       λ g spans.
-          filled-more (l .loop .inv .3 g spans) (g .plan .handed .input) spans (start l .pre .1) i (w .widen .ensures .0 ∙ g .horizons .last (l .loop .i) i) (u .ways .ensures (sentenceRun g i (w .widen .ensures .0)))
+          filled-more (l .loop .inv .2 g spans) (g .plan .handed .input) spans (start l .pre .1) i (w .widen .ensures .0 ∙ g .horizons .last (l .loop .i) i) (u .ways .ensures (sentenceRun g i (w .widen .ensures .0)))
           (mid-is (l .loop .hi) (l .loop .i) (omega arith) _)
           (mid-is (l .loop .lo) (l .loop .i) (omega arith) _)
           hi
@@ -131,13 +130,13 @@ loop-again c =
     )
 
 same-length : tie.Need-same-length Inv-loop μ-loop
-same-length c = c .before .loop .inv .1
+same-length c = c .before .loop .inv .0
 
 same-length-2 : tie.Need-same-length-2 Inv-loop μ-loop
-same-length-2 c = c .before .loop .inv .2
+same-length-2 c = c .before .loop .inv .1
 
 returns : tie.Need-returns Inv-loop μ-loop
-returns c = λ g spans. column-done (c .before .loop .inv .3 g spans) (c .loop-test .left)
+returns c = λ g spans. column-done (c .before .loop .inv .2 g spans) (c .loop-test .left)
 
 pub whole-spec : {M : Type 1} → statement M
 whole-spec =

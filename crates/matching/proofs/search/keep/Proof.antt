@@ -11,7 +11,7 @@ use Rattle.matching.specs.Steps.Turning.{viewed}
 use Rattle.matching.specs.Steps.Settling.{loose, Settled}
 use Rattle.matching.specs.Steps.Laid.{Plan, Raisable, planned}
 use Rattle.matching.proofs.Raising.{placed}
-use Rattle.matching.proofs.Keeping.{settled-found, Keeping, keeping-begin, unkept, last-inside, kept, keeping-more, keeping-less}
+use Rattle.matching.proofs.Keeping.{settled-found, Keeping, keeping-begin, unkept, last-inside, Turn, kept, keeping-more, keeping-less}
 use borrow.Author.Needs.{needs}
 use Rattle.matching.proofs.search.keep.Statement.{statement}
 use Rattle.matching.proofs.search.keep.Tie as tie
@@ -48,6 +48,12 @@ larger-at c = c .before
 abbrev first-at : tie.After-last-end Inv-loop μ-loop → tie.After-widen2 Inv-loop μ-loop
 first-at c = larger-at c .before
 
+abbrev found-of : tie.After-last-end Inv-loop μ-loop → tie.Then1 Inv-loop μ-loop
+found-of c = found-at (last-at (larger-at c))
+
+abbrev loop-of : tie.After-last-end Inv-loop μ-loop → tie.At-loop Inv-loop μ-loop
+loop-of c = loop-at (found-of c .before)
+
 -- ---- what is known there
 
 abbrev given : (c : tie.At-loop Inv-loop μ-loop)
@@ -57,7 +63,7 @@ given c = start c .pre .0
 abbrev v : (c : tie.At-loop Inv-loop μ-loop) → Pattern → View
 v c f = viewed (start c .args .mirrored) f (start c .args .text .now)
 
--- the row that was found wherever sentences end
+-- the row that was found as if no sentence ended
 abbrev row : tie.After-slice-known2 Inv-loop μ-loop → List ℕ
 row c = settle-at c .settle .last .1 .1 .1 .1 .1 .1 .0
 
@@ -69,19 +75,28 @@ settled c w = settled-found (c .if1 .taken) (settle-at (c .before) .settle .ensu
 size : (c : tie.Then1 Inv-loop μ-loop) → length (row (c .before)) ≡ 16
 size c = settled c (given (loop-at (c .before)) .plan) .size refl
 
--- one was found
+abbrev turn : (c : tie.After-last-end Inv-loop μ-loop)
+    → (w : Plan (length (start (loop-of c) .args .text .now)) (start (loop-of c) .args .m) (start (loop-of c) .args .least) (start (loop-of c) .args .most) (start (loop-of c) .args .laid .now))
+    → Turn (planned w) (v (loop-of c) (planned w)) (start (loop-of c) .args .p .now) (loop-of c .loop .p) (loop-of c .loop .from) (row (found-of c .before)) (last-at (larger-at c) .widen .result) (c .last-end .result)
+turn c w = record {
+  keeping = loop-of c .loop .inv w;
+  settled = settled (found-of c) w;
+  ready = w .ready;
+  first = first-at c .widen2 .result;
+  first-is = first-at c .widen2 .ensures .0;
+  last-is = last-at (larger-at c) .widen .ensures .0;
+  back = larger-at c .larger .result;
+  back-is = larger-at c .larger .ensures;
+  end-is = c .last-end .ensures;
+}
+
+-- a sentence end was found
 some : (c : tie.Else2 Inv-loop μ-loop) → 0 < c .before .last-end .result
 some c = omega (arith, c .if2 .left)
 
 less : (c : tie.Else2 Inv-loop μ-loop)
-    → (20001 - at (set (row (found-at (last-at (larger-at (c .before))) .before)) 0 (c .before .last-end .result)) 0 < 20001 - at (loop-at (found-at (last-at (larger-at (c .before))) .before) .loop .p) 0) × (c .before .last-end .result ≤ 20000)
-less c =
-    let e = c .before in
-    let a = last-at (larger-at e) in
-    let f = found-at a in
-    let l = loop-at (f .before) in
-    let w = given l .plan in
-    keeping-less (l .loop .inv w) (settled f w) (w .ready) (first-at e .widen2 .ensures .0) (larger-at e .larger .ensures) (a .widen .ensures .0) (e .last-end .ensures) (some c)
+    → (20001 - at (set (row (found-of (c .before) .before)) 0 (c .before .last-end .result)) 0 < 20001 - at (loop-of (c .before) .loop .p) 0) × (c .before .last-end .result ≤ 20000)
+less c = keeping-less (turn (c .before) (given (loop-of (c .before)) .plan)) (some c)
 
 -- ----
 
@@ -122,35 +137,26 @@ larger-requires c κs = search needs
 last-end-requires : tie.Need-last-end-requires Inv-loop μ-loop
 last-end-requires c κs =
     let f = found-at (last-at c) in
-    let l = loop-at (f .before) in
-    let g = given l in
-    (omega (arith, c .larger .ensures .right), omega (arith, last-at c .widen .ensures .0, last-inside (l .loop .inv (g .plan)) (settled f (g .plan)) (g .plan .ready)))
+    let w = given (loop-at (f .before)) .plan in
+    (omega (arith, c .larger .ensures .right), omega (arith, last-at c .widen .ensures .0, last-inside (settled f w) (w .ready)))
 
 same-length : tie.Need-same-length Inv-loop μ-loop
-same-length c = let f = found-at (last-at (larger-at (c .before))) in size f ∙ sym (given (loop-at (f .before)) .size)
+same-length c = size (found-of (c .before)) ∙ sym (given (loop-of (c .before)) .size)
 
 returns : tie.Need-returns Inv-loop μ-loop
-returns c = λ w.
-    let e = c .before in
-    let a = last-at (larger-at e) in
-    let f = found-at a in
-    kept (loop-at (f .before) .loop .inv w) (settled f w) (w .ready) (first-at e .widen2 .ensures .0) (larger-at e .larger .ensures) (a .widen .ensures .0) (e .last-end .ensures) (c .if2 .taken)
+returns c = λ w. kept (turn (c .before) w) (c .if2 .taken)
 
 cast-p : tie.Need-cast-p Inv-loop μ-loop
 cast-p c = omega (arith, less c .1)
 
 slice-write-p : tie.Need-slice-write-p Inv-loop μ-loop
-slice-write-p c = omega (arith, size (found-at (last-at (larger-at (c .before)))))
+slice-write-p c = omega (arith, size (found-of (c .before)))
 
 loop-less : tie.Need-loop-less Inv-loop μ-loop
 loop-less c = less c .0
 
 loop-again : tie.Need-loop-again Inv-loop μ-loop
-loop-again c = λ w.
-    let e = c .before in
-    let a = last-at (larger-at e) in
-    let f = found-at a in
-    keeping-more (loop-at (f .before) .loop .inv w) (settled f w) (w .ready) (first-at e .widen2 .ensures .0) (larger-at e .larger .ensures) (a .widen .ensures .0) (e .last-end .ensures) (some c)
+loop-again c = λ w. keeping-more (turn (c .before) w) (some c)
 
 same-length-2 : tie.Need-same-length-2 Inv-loop μ-loop
 same-length-2 c =
