@@ -13,5 +13,6 @@ pub mod Largest
 pub mod Answers
 pub mod Texts
 pub mod SentenceTexts
+pub mod Joining
 pub mod Steps
 pub mod Laws

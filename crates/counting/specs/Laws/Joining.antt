@@ -1,5 +1,5 @@
 -- Two texts with a sentence end between them: each occurrence lies in one of the two, so the tally of the joined text is the sum of theirs.
-use Prim.Native.Nat.{ℕ, _+_}
+use Prim.Native.Nat.{ℕ}
 use mathlib.Core.Path.{_≡_, ap, _∙_}
 use mathlib.Core.List.{List, _∷_, _++_}
 use lib.ListN.{length}
@@ -9,17 +9,9 @@ use Rattle.pattern.specs.declared.refusal.Verdict.the-variants.{Accepted}
 use Rattle.pattern.specs.Tests.{inputVerdict}
 use Rattle.pattern.specs.Laws.Accepting.{input-accepted}
 use Rattle.matching.specs.Occurrences.{occurrences}
-use Rattle.matching.specs.Laws.Joining.{joined-input, joined-tally}
-use Rattle.counting.specs.Answers.{totalOf, talliedAfter, tallied}
-
--- what `tally` answers for the two texts are the answers for two numbers, and for the joined text that for their sum; an answer is 9
--- exactly if its number is over 2 ^ 64 - 1
-pub record TalliesAdd (f : Pattern) (t u : List ℕ) : Type 0 where
-  pub first : ℕ
-  pub second : ℕ
-  pub of-first : tallied f t ≡ totalOf first
-  pub of-second : tallied f u ≡ totalOf second
-  pub of-joined : tallied f (t ++ 0 ∷ u) ≡ totalOf (first + second)
+use Rattle.matching.specs.Laws.Joining.{joined-input, joined-texts}
+use Rattle.counting.specs.Answers.{totalOf, talliedAfter}
+use Rattle.counting.specs.Joining.{TalliesAdd}
 
 tallied-total : {o : Verdict} → o ≡ Accepted → (n : ℕ) → talliedAfter o n ≡ totalOf n
 tallied-total e n = ap (λ (o : Verdict). talliedAfter o n) e
@@ -33,5 +25,5 @@ tallies-add f t u e =
       second = length (occurrences f u);
       of-first = tallied-total (b .0) (length (occurrences f t));
       of-second = tallied-total (b .1) (length (occurrences f u));
-      of-joined = tallied-total e (length (occurrences f (t ++ 0 ∷ u))) ∙ ap totalOf (joined-tally (input-accepted f (length (t ++ 0 ∷ u)) .0 e .pattern) t u);
+      of-joined = tallied-total e (length (occurrences f (t ++ 0 ∷ u))) ∙ ap totalOf (joined-texts (input-accepted f (length (t ++ 0 ∷ u)) .0 e .pattern) t u .tally);
     }

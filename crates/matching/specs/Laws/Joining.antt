@@ -20,14 +20,15 @@ use Rattle.pattern.specs.Tests.{inputVerdict}
 use Rattle.pattern.specs.Accepted.{Accepted}
 use Rattle.pattern.specs.Laws.Accepting.{takes-zero, input-accepted}
 use Rattle.matching.specs.declared.rows.Listed.the-variants.{Rows}
-use Rattle.matching.specs.Occurrence.{View, plain, wordAt, OccursIn, Occurs, at}
+use Rattle.matching.specs.Occurrence.{View, plain, wordAt, OccursIn, at}
 use Rattle.matching.specs.Occurrences.{Lex, occurrencesIn, occurrences}
 use Rattle.matching.specs.Rows.{level, Before, NotAfter}
 use Rattle.matching.specs.Searches.{EarliestIn}
 use Rattle.matching.specs.Lists.{leftmostIn, leftmost}
 use Rattle.matching.specs.Answers.{counted}
+use Rattle.matching.specs.Joining.{shifted, Lies, in-first, in-second, JoinedTexts, SupportsAdd}
 use Rattle.matching.specs.Laws.Rows.{at-level, occurs-between}
-use Rattle.matching.specs.Laws.Pieces.{shifted, Piece, at-shifted, shifted-back, lex-shifted, lex-first, length-rows, piece-whole, whole-piece}
+use Rattle.matching.specs.Laws.Pieces.{Piece, at-shifted, shifted-back, lex-shifted, lex-first, length-rows, piece-whole, whole-piece}
 use Rattle.matching.specs.Laws.Enumeration.{occurrences-occur, occurrences-iff, occurrences-lex}
 use Rattle.matching.specs.Laws.Ordering.{lex-unique}
 use Rattle.matching.specs.Laws.Greedy.{done, next}
@@ -41,11 +42,6 @@ pub record Joined (m : ℕ) (v w x : View) : Type 0 where
   pub second : Piece m (v .places + 1) w x
   pub stop : x .ends (v .places + 1) ≡ true
   pub free : (j : ℕ) → j < m → x .fits j (v .places + 1) ≡ false
-
--- the row is an occurrence in v, or one in w that stands after the places of v and one more
-pub data Lies (f : Pattern) (v w : View) : List ℕ → Type 0 where
-  in-first : {r : List ℕ} → OccursIn f v r → Lies f v w r
-  in-second : {r : List ℕ} → OccursIn f w r → Lies f v w (shifted (v .places + 1) r)
 
 -- ---- two joined views
 
@@ -219,25 +215,18 @@ module _ {f : Pattern} (ok : Accepted f) (t u : List ℕ) where
     free = λ j h. ap (takes (slotAt f j)) (word-between t u) ∙ takes-zero (slotAt f j) .1 (ok .slot j h .nonzero);
   }
 
-  -- a row occurs in the joined text exactly if it lies in one of the two
-  pub joined-occurs : (r : List ℕ) → Occurs f (t ++ 0 ∷ u) r ↔ Lies f (plain f t) (plain f u) r
-  joined-occurs r = joined-iff f plain-joined (ok .some) r
-
-  -- all occurrences of the joined text are those of the first, then those of the second, shifted
-  pub joined-occurrences : occurrences f (t ++ 0 ∷ u) ≡ occurrences f t ++ map (shifted (length t + 1)) (occurrences f u)
-  joined-occurrences = occurrencesIn-joined f plain-joined (ok .some)
-
-  -- and so is its front list
-  pub joined-leftmost : leftmost f (t ++ 0 ∷ u) ≡ leftmost f t ++ map (shifted (length t + 1)) (leftmost f u)
-  joined-leftmost = leftmostIn-joined f plain-joined (ok .some)
-
-  -- the tally is the sum of the two
-  pub joined-tally : length (occurrences f (t ++ 0 ∷ u)) ≡ length (occurrences f t) + length (occurrences f u)
-  joined-tally = ap length joined-occurrences ∙ length-rows (length t + 1) (occurrences f t) (occurrences f u)
-
-  -- and so is the support
-  pub joined-support : length (leftmost f (t ++ 0 ∷ u)) ≡ length (leftmost f t) + length (leftmost f u)
-  joined-support = ap length joined-leftmost ∙ length-rows (length t + 1) (leftmost f t) (leftmost f u)
+  -- what is stated of the joined text holds
+  pub joined-texts : JoinedTexts f t u
+  joined-texts =
+      let all = occurrencesIn-joined f plain-joined (ok .some) in
+      let front = leftmostIn-joined f plain-joined (ok .some) in
+      record {
+        occurs = joined-iff f plain-joined (ok .some);
+        all = all;
+        front = front;
+        tally = ap length all ∙ length-rows (length t + 1) (occurrences f t) (occurrences f u);
+        support = ap length front ∙ length-rows (length t + 1) (leftmost f t) (leftmost f u);
+      }
 
 -- ---- the calls
 
@@ -248,14 +237,6 @@ joined-input f t u e =
       input-accepted f (length t) .1 (record { pattern = a .pattern; short = omega (arith, a .short, length-joined t u) }),
       input-accepted f (length u) .1 (record { pattern = a .pattern; short = omega (arith, a .short, length-joined t u) }),
     )
-
--- what `support` answers for the two texts, and the sum for the joined one
-pub record SupportsAdd (f : Pattern) (t u : List ℕ) : Type 0 where
-  pub first : ℕ
-  pub second : ℕ
-  pub of-first : counted (inputVerdict f (length t)) (leftmost f t) ≡ Rows first
-  pub of-second : counted (inputVerdict f (length u)) (leftmost f u) ≡ Rows second
-  pub of-joined : counted (inputVerdict f (length (t ++ 0 ∷ u))) (leftmost f (t ++ 0 ∷ u)) ≡ Rows (first + second)
 
 counted-rows : {o : Verdict} → o ≡ Fine → (R : List (List ℕ)) → counted o R ≡ Rows (length R)
 counted-rows e R = ap (λ (o : Verdict). counted o R) e
@@ -269,5 +250,5 @@ supports-add f t u e =
       second = length (leftmost f u);
       of-first = counted-rows (b .0) (leftmost f t);
       of-second = counted-rows (b .1) (leftmost f u);
-      of-joined = counted-rows e (leftmost f (t ++ 0 ∷ u)) ∙ ap Rows (joined-support (input-accepted f (length (t ++ 0 ∷ u)) .0 e .pattern) t u);
+      of-joined = counted-rows e (leftmost f (t ++ 0 ∷ u)) ∙ ap Rows (joined-texts (input-accepted f (length (t ++ 0 ∷ u)) .0 e .pattern) t u .support);
     }

@@ -9,10 +9,7 @@ use Rattle.basics.specs.Laws.Collections.{map-at}
 use Rattle.pattern.specs.declared.Pattern.{Pattern}
 use Rattle.matching.specs.Occurrence.{View, OccursIn, at}
 use Rattle.matching.specs.Occurrences.{Lex, here, after}
-
--- the row with n added to every place
-abbrev pub shifted : ℕ → List ℕ → List ℕ
-shifted n r = map (λ p. p + n) r
+use Rattle.matching.specs.Joining.{shifted}
 
 -- to a pattern of m slots, the view v is a stretch of x: the places after its first n
 pub record Piece (m n : ℕ) (v x : View) : Type 0 where
