@@ -5,8 +5,8 @@ use mathlib.Core.List.{List, _∷_, _++_}
 use Rattle.pattern.specs.declared.Pattern.{Pattern}
 use Rattle.counting.specs.Answers.{totalOf, tallied}
 
--- what `tally` answers for the two texts are the answers for two numbers, and for the joined text that for their sum; an answer is 9
--- exactly if its number is over 2 ^ 64 - 1
+-- the call, where the joined text passes the tests: what `tally` answers for the two texts are the answers for two numbers, and for it that
+-- for their sum; an answer is 9 exactly if its number is over 2 ^ 64 - 1
 pub record TalliesAdd (f : Pattern) (t u : List ℕ) : Type 0 where
   pub first : ℕ
   pub second : ℕ

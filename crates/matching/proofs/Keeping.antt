@@ -27,7 +27,7 @@ module _ {f : Pattern} {v : View} where
 pub settled-found : {f : Pattern} {v : View} {p q : List ℕ} {b : Bool} → b ≡ true → Settled f v p (record { found = b; places = q }) → Settled f v p (record { found = true; places = q })
 settled-found e S = rw e at S
 
--- the invariant of the turns: no sentence ends past the first place and before `from`
+-- the invariant of the looks: no sentence ends past the first place and before `from`
 pub record Keeping (f : Pattern) (v : View) (p₀ p : List ℕ) (from : ℕ) : Type 0 where
   pub rising : Raised f v p₀ p
   pub clear : Unbroken (v .ends) (at p 0) from
@@ -56,28 +56,28 @@ last-inside {f} {q = q} S ok =
     let h : f .count - 1 < f .count = omega (arith, ok .some) in
     omega (arith, getD-take (f .count) q (f .count - 1) 0 h, S .occurs refl .inside (f .count - 1) h .1)
 
--- a turn: q is the earliest as if no sentence ended, `to` its last place, and `end` the last sentence end inside it, or 0
-pub record Turn (f : Pattern) (v : View) (p₀ p : List ℕ) (from : ℕ) (q : List ℕ) (to end : ℕ) : Type 0 where
+-- a look for a sentence end: q is the earliest as if no sentence ended, `to` its last place, and `end` the last sentence end inside it, or 0
+pub record Looked (f : Pattern) (v : View) (p₀ p : List ℕ) (from : ℕ) (q : List ℕ) (to end : ℕ) : Type 0 where
   pub keeping : Keeping f v p₀ p from
   pub settled : Settled f (loose v) p (record { found = true; places = q })
   pub ready : Ready f (v .places)
   pub first : ℕ
   pub first-is : first ≡ at q 0
   pub last-is : to ≡ at q (f .count - 1)
-  -- where the look for it goes back to
+  -- where the look goes back to
   pub back : ℕ
   pub back-is : Larger from (first + 1) back
   pub end-is : LastEnd (v .ends) back to end
 
-module _ {f : Pattern} {v : View} {p₀ p : List ℕ} {from : ℕ} {q : List ℕ} {to end : ℕ} (T : Turn f v p₀ p from q to end) where
+module _ {f : Pattern} {v : View} {p₀ p : List ℕ} {from : ℕ} {q : List ℕ} {to end : ℕ} (L : Looked f v p₀ p from q to end) where
   abbrev S : Settled f (loose v) p (record { found = true; places = q })
-  S = T .settled
+  S = L .settled
 
   abbrev ok : Ready f (v .places)
-  ok = T .ready
+  ok = L .ready
 
   raised : Raised f v p₀ q
-  raised = settled-raised (T .keeping) S
+  raised = settled-raised (L .keeping) S
 
   first-up : at p 0 ≤ at q 0
   unfolding NotAfter
@@ -87,10 +87,10 @@ module _ {f : Pattern} {v : View} {p₀ p : List ℕ} {from : ℕ} {q : List ℕ
   pub kept : end ≡ 0 → Settled f v p₀ (record { found = true; places = q })
   kept e =
       let h : f .count - 1 < f .count = omega (arith, ok .some) in
-      let back = T .back in
+      let back = L .back in
       let inside : Unbroken (v .ends) (at q 0) (at q (f .count - 1)) = λ x a b. elim (decLt x back) [
-        | yes l ↦ T .keeping .clear x (omega (arith, first-up)) (let g : from ≤ x → ⊥ = λ g. omega (arith, T .back-is .only x g (omega (arith, T .first-is))) in omega arith)
-        | no l ↦ T .end-is .after x (omega arith) (omega arith) (omega (arith, T .last-is))
+        | yes l ↦ L .keeping .clear x (omega (arith, first-up)) (let g : from ≤ x → ⊥ = λ g. omega (arith, L .back-is .only x g (omega (arith, L .first-is))) in omega arith)
+        | no l ↦ L .end-is .after x (omega arith) (omega arith) (omega (arith, L .last-is))
       ] in
       record {
         occurs = λ _. tightened (S .occurs refl) (rw (getD-take (f .count) q 0 0 (ok .some), getD-take (f .count) q (f .count - 1) 0 h) inside);
@@ -104,15 +104,15 @@ module _ {f : Pattern} {v : View} {p₀ p : List ℕ} {from : ℕ} {q : List ℕ
   -- one does, and no occurrence starts before it
   module _ (some : 0 < end) where
     end-past : at q 0 < end
-    end-past = omega (arith, T .end-is .some some, T .back-is .right, T .first-is)
+    end-past = omega (arith, L .end-is .some some, L .back-is .right, L .first-is)
 
     end-inside : end < v .places
-    end-inside = omega (arith, T .end-is .some some, T .last-is, last-inside S ok)
+    end-inside = omega (arith, L .end-is .some some, L .last-is, last-inside S ok)
 
     end-before : (r : List ℕ) → OccursIn f v r → NotAfter (f .count) p₀ r → end ≤ at r 0
     unfolding NotAfter
     end-before r O B = elim (decLt (at r 0) end) [
-      | yes l ↦ absurd (true≢false (sym (T .end-is .some some .2) ∙ O .sentence end l (omega (arith, T .end-is .some some, T .last-is, raised .sound r O B (f .count - 1) (omega (arith, ok .some))))))
+      | yes l ↦ absurd (true≢false (sym (L .end-is .some some .2) ∙ O .sentence end l (omega (arith, L .end-is .some some, L .last-is, raised .sound r O B (f .count - 1) (omega (arith, ok .some))))))
       | no l ↦ omega arith
     ]
 
@@ -121,7 +121,7 @@ module _ {f : Pattern} {v : View} {p₀ p : List ℕ} {from : ℕ} {q : List ℕ
         let z : 0 < length q = omega (arith, S .size refl) in
         record {
           rising = raised-at raised (ok .some) (ok .few) (omega (arith, end-past)) end-before;
-          clear = λ x a b. T .end-is .after x (omega (arith, getD-set-same q 0 end 0 z)) (omega (arith, T .end-is .some some, getD-set-same q 0 end 0 z)) b;
+          clear = λ x a b. L .end-is .after x (omega (arith, getD-set-same q 0 end 0 z)) (omega (arith, L .end-is .some some, getD-set-same q 0 end 0 z)) b;
         }
 
     -- the first place is raised

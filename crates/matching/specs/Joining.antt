@@ -21,7 +21,7 @@ pub data Lies (f : Pattern) (v w : View) : List ℕ → Type 0 where
   in-first : {r : List ℕ} → OccursIn f v r → Lies f v w r
   in-second : {r : List ℕ} → OccursIn f w r → Lies f v w (shifted (v .places + 1) r)
 
--- of the meanings, for any two texts
+-- the meanings, for an accepted pattern and any two texts
 pub record JoinedTexts (f : Pattern) (t u : List ℕ) : Type 0 where
   -- a row occurs in the joined text exactly if it lies in one of the two
   pub occurs : (r : List ℕ) → Occurs f (t ++ 0 ∷ u) r ↔ Lies f (plain f t) (plain f u) r
@@ -33,7 +33,7 @@ pub record JoinedTexts (f : Pattern) (t u : List ℕ) : Type 0 where
   pub tally : length (occurrences f (t ++ 0 ∷ u)) ≡ length (occurrences f t) + length (occurrences f u)
   pub support : length (leftmost f (t ++ 0 ∷ u)) ≡ length (leftmost f t) + length (leftmost f u)
 
--- of the call: what `support` answers for the two texts, and for the joined one the sum
+-- the call, where the joined text passes the tests: what `support` answers for the two texts, and for it the sum
 pub record SupportsAdd (f : Pattern) (t u : List ℕ) : Type 0 where
   pub first : ℕ
   pub second : ℕ

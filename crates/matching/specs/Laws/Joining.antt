@@ -18,16 +18,18 @@ use Rattle.pattern.specs.declared.refusal.Verdict.the-variants.{Accepted as Fin
 use Rattle.pattern.specs.Patterns.{takes, slotAt}
 use Rattle.pattern.specs.Tests.{inputVerdict}
 use Rattle.pattern.specs.Accepted.{Accepted}
-use Rattle.pattern.specs.Laws.Accepting.{takes-zero, input-accepted}
+use Rattle.pattern.specs.Laws.Accepting.{input-accepted}
 use Rattle.matching.specs.declared.rows.Listed.the-variants.{Rows}
 use Rattle.matching.specs.Occurrence.{View, plain, wordAt, OccursIn, at}
 use Rattle.matching.specs.Occurrences.{Lex, occurrencesIn, occurrences}
 use Rattle.matching.specs.Rows.{level, Before, NotAfter}
 use Rattle.matching.specs.Searches.{EarliestIn}
 use Rattle.matching.specs.Lists.{leftmostIn, leftmost}
+use Rattle.matching.specs.Spans.{NoEndFits}
 use Rattle.matching.specs.Answers.{counted}
 use Rattle.matching.specs.Joining.{shifted, Lies, in-first, in-second, JoinedTexts, SupportsAdd}
 use Rattle.matching.specs.Laws.Rows.{at-level, occurs-between}
+use Rattle.matching.specs.Laws.Sentences.{accepted-no-end}
 use Rattle.matching.specs.Laws.Pieces.{Piece, at-shifted, shifted-back, lex-shifted, lex-first, length-rows, piece-whole, whole-piece}
 use Rattle.matching.specs.Laws.Enumeration.{occurrences-occur, occurrences-iff, occurrences-lex}
 use Rattle.matching.specs.Laws.Ordering.{lex-unique}
@@ -35,13 +37,13 @@ use Rattle.matching.specs.Laws.Greedy.{done, next}
 use Rattle.matching.specs.Laws.Bounding.{Forward}
 use Rattle.matching.specs.Laws.Extremes.{leftmost-front, front-unique}
 
--- the view x is v, then a place at which a sentence ends and which none of the m slots fits, then w
+-- the view x is v, then a place at which a sentence ends, then w; none of m slots fits where a sentence ends
 pub record Joined (m : ℕ) (v w x : View) : Type 0 where
   pub size : x .places ≡ v .places + 1 + w .places
   pub first : Piece m 0 v x
   pub second : Piece m (v .places + 1) w x
   pub stop : x .ends (v .places + 1) ≡ true
-  pub free : (j : ℕ) → j < m → x .fits j (v .places + 1) ≡ false
+  pub no-end : NoEndFits m x
 
 -- ---- two joined views
 
@@ -74,7 +76,7 @@ module _ (f : Pattern) {v w x : View} (J : Joined (f .count) v w x) (some : 1 �
   one-side : {s : List ℕ} → OccursIn f x s → at s 0 ≤ n → n ≤ at s (f .count - 1) → ⊥
   one-side {s} O a b =
       let m : f .count - 1 < f .count = omega arith in
-      let unlike : (j : ℕ) → j < f .count → at s j ≡ n → ⊥ = λ j h e. true≢false (sym (O .fit j h) ∙ ap (x .fits j) e ∙ J .free j h) in
+      let unlike : (j : ℕ) → j < f .count → at s j ≡ n → ⊥ = λ j h e. true≢false (sym (J .stop) ∙ sym (ap (x .ends) e) ∙ J .no-end .unfit j h (at s j) (O .fit j h)) in
       true≢false (sym (J .stop) ∙ O .sentence n (omega (arith, unlike 0 some)) (omega (arith, unlike (f .count - 1) m)))
 
   occurs-lies : {s : List ℕ} → OccursIn f x s → Lies f v w s
@@ -197,7 +199,7 @@ module _ (t u : List ℕ) where
   length-joined = omega (arith, length-append t (0 ∷ u))
 
 module _ {f : Pattern} (ok : Accepted f) (t u : List ℕ) where
-  -- joined by the word 0, at which a sentence ends and which no slot of an accepted pattern takes
+  -- joined by the word 0, which no slot of an accepted pattern takes
   pub plain-joined : Joined (f .count) (plain f t) (plain f u) (plain f (t ++ 0 ∷ u))
   plain-joined = record {
     size = length-joined t u;
@@ -212,7 +214,7 @@ module _ {f : Pattern} (ok : Accepted f) (t u : List ℕ) where
       ends = λ p q e a b. ap (λ (c : ℕ). eqb c 0) (word-second t u p q e a);
     };
     stop = ap (λ (c : ℕ). eqb c 0) (word-between t u);
-    free = λ j h. ap (takes (slotAt f j)) (word-between t u) ∙ takes-zero (slotAt f j) .1 (ok .slot j h .nonzero);
+    no-end = accepted-no-end ok (t ++ 0 ∷ u);
   }
 
   -- what is stated of the joined text holds

@@ -1,7 +1,7 @@
 -- A piece of a view: the occurrences in it are those of the whole view that stand at its places.
 use Prim.Native.Nat.{ℕ, _+_, _-_, _≤_, _<_}
 use native.Mathlib.Omega.{arith}
-use mathlib.Core.Path.{_≡_, refl, sym, _∙_}
+use mathlib.Core.Path.{_≡_, sym, _∙_}
 use mathlib.Core.List.{List, [], _∷_, _++_, map}
 use lib.ListN.{length, length-append, length-map}
 use lib.Seq.{ext-getD}
@@ -46,33 +46,41 @@ length-rows n R S = omega (arith, length-append R (map (shifted n) S), length-ma
 
 -- ---- a piece of a view
 
+-- an occurrence that is moved as a whole, to places that its slots fit as well and between which no other sentences end, is one there
+occurs-moved : {f : Pattern} {v x : View} {r s : List ℕ} → 1 ≤ f .count → (a b : ℕ) → ((j : ℕ) → j < f .count → at r j + a ≡ at s j + b)
+    → length s ≡ f .count → ((j : ℕ) → j < f .count → (1 ≤ at s j) × (at s j ≤ x .places)) → ((j : ℕ) → j < f .count → x .fits j (at s j) ≡ v .fits j (at r j))
+    → ((p q : ℕ) → p + a ≡ q + b → at r 0 < p → p < at r (f .count - 1) → x .ends q ≡ v .ends p) → OccursIn f v r → OccursIn f x s
+occurs-moved {f} {r = r} {s = s} some a b move size inside fits ends O =
+    let last = move (f .count - 1) (omega arith) in
+    let first = move 0 some in
+    record {
+      size = size;
+      inside = inside;
+      fit = λ j h. fits j h ∙ O .fit j h;
+      gap = λ j h. omega (arith, move j (omega arith), move (j + 1) h, O .gap j h);
+      span = omega (arith, O .span);
+      sentence = λ q l h. let p = q + b - a in ends p q (omega arith) (omega arith) (omega arith) ∙ O .sentence p (omega arith) (omega arith);
+    }
+
 module _ {f : Pattern} {n : ℕ} {v x : View} (P : Piece (f .count) n v x) (some : 1 ≤ f .count)
     {r s : List ℕ} (move : (j : ℕ) → j < f .count → at s j ≡ at r j + n) where
   -- what occurs in the piece occurs in the whole
   pub piece-whole : length s ≡ f .count → OccursIn f v r → OccursIn f x s
-  piece-whole size O = record {
-    size = size;
-    inside = λ j h. omega (arith, move j h, O .inside j h, P .room);
-    fit = λ j h. P .fits j h (at r j) (at s j) (move j h) (O .inside j h .0) (O .inside j h .1) ∙ O .fit j h;
-    gap = λ j h. omega (arith, move j (omega arith), move (j + 1) h, O .gap j h);
-    span = omega (arith, move 0 some, move (f .count - 1) (omega arith), O .span);
-    sentence = λ q a b.
-        let k : f .count - 1 < f .count = omega arith in
-        let p = q - n in
-        P .ends p q (omega (arith, move 0 some)) (omega (arith, move 0 some)) (omega (arith, move (f .count - 1) k, O .inside (f .count - 1) k))
-        ∙ O .sentence p (omega (arith, move 0 some)) (omega (arith, move 0 some, move (f .count - 1) k));
-  }
+  piece-whole size O =
+      let last = O .inside (f .count - 1) (omega arith) in
+      occurs-moved some n 0 (λ j h. omega (arith, move j h)) size
+      (λ j h. omega (arith, move j h, O .inside j h, P .room))
+      (λ j h. P .fits j h (at r j) (at s j) (move j h) (O .inside j h .0) (O .inside j h .1))
+      (λ p q e l h. P .ends p q (omega arith) (omega arith) (omega arith))
+      O
 
   -- and what occurs in the whole, at places of the piece, occurs in the piece
   pub whole-piece : length r ≡ f .count → ((j : ℕ) → j < f .count → (1 ≤ at r j) × (at r j ≤ v .places)) → OccursIn f x s → OccursIn f v r
-  whole-piece size inside O = record {
-    size = size;
-    inside = inside;
-    fit = λ j h. sym (P .fits j h (at r j) (at s j) (move j h) (inside j h .0) (inside j h .1)) ∙ O .fit j h;
-    gap = λ j h. omega (arith, move j (omega arith), move (j + 1) h, O .gap j h);
-    span = omega (arith, move 0 some, move (f .count - 1) (omega arith), O .span);
-    sentence = λ p a b.
-        let k : f .count - 1 < f .count = omega arith in
-        sym (P .ends p (p + n) refl (omega arith) (omega (arith, inside (f .count - 1) k)))
-        ∙ O .sentence (p + n) (omega (arith, move 0 some)) (omega (arith, move (f .count - 1) k));
-  }
+  whole-piece size inside O =
+      let first = move 0 some in
+      let last = move (f .count - 1) (omega arith) in
+      let end = inside (f .count - 1) (omega arith) in
+      occurs-moved some 0 n (λ j h. omega (arith, move j h)) size inside
+      (λ j h. sym (P .fits j h (at r j) (at s j) (move j h) (inside j h .0) (inside j h .1)))
+      (λ p q e l h. sym (P .ends q p (omega arith) (omega arith) (omega arith)))
+      O

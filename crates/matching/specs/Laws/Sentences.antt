@@ -1,4 +1,5 @@
--- Where sentences end: what the horizon of a place is; and a row keeps to one sentence exactly if any two neighbouring places of it do.
+-- Where sentences end: what the horizon of a place is; and which rows keep to one sentence: those of one slot, and exactly those of which
+-- any two neighbouring places do.
 use Prim.Native.Nat.{ℕ, zero, suc, _+_, _-_, _≤_, _<_}
 use native.Mathlib.Decide.{ℕ-discrete, decLt}
 use native.Mathlib.Omega.{arith}
@@ -77,9 +78,13 @@ horizon-same v {p} {q} l h short =
       | no k ↦ omega arith
     ]
 
--- ---- a row of neighbours
+-- ---- rows
 
--- a word that the slot takes is not 0, where it does not take that
+-- a row of one slot breaks no sentence
+pub one-slot : (ends : ℕ → Bool) {m : ℕ} → m ≡ 1 → (r : List ℕ) → Unbroken ends (at r 0) (at r (m - 1))
+one-slot ends {m} e r x a b = let z : m - 1 ≡ 0 = omega arith in let c = rw z at b in absurd (omega arith)
+
+-- where a slot does not take 0, no word that it takes is 0
 taken-nonzero : (s : Slot) {w : ℕ} → takes s 0 ≡ false → takes s w ≡ true → w ≡ 0 → ⊥
 taken-nonzero s z e d = true≢false (sym e ∙ ap (takes s) d ∙ z)
 

@@ -11,7 +11,7 @@ use Rattle.matching.specs.Steps.Turning.{viewed}
 use Rattle.matching.specs.Steps.Settling.{loose, Settled}
 use Rattle.matching.specs.Steps.Laid.{Plan, Raisable, planned}
 use Rattle.matching.proofs.Raising.{placed}
-use Rattle.matching.proofs.Keeping.{settled-found, Keeping, keeping-begin, unkept, last-inside, Turn, kept, keeping-more, keeping-less}
+use Rattle.matching.proofs.Keeping.{settled-found, Keeping, keeping-begin, unkept, last-inside, Looked, kept, keeping-more, keeping-less}
 use borrow.Author.Needs.{needs}
 use Rattle.matching.proofs.search.keep.Statement.{statement}
 use Rattle.matching.proofs.search.keep.Tie as tie
@@ -75,10 +75,10 @@ settled c w = settled-found (c .if1 .taken) (settle-at (c .before) .settle .ensu
 size : (c : tie.Then1 Inv-loop μ-loop) → length (row (c .before)) ≡ 16
 size c = settled c (given (loop-at (c .before)) .plan) .size refl
 
-abbrev turn : (c : tie.After-last-end Inv-loop μ-loop)
+abbrev looked : (c : tie.After-last-end Inv-loop μ-loop)
     → (w : Plan (length (start (loop-of c) .args .text .now)) (start (loop-of c) .args .m) (start (loop-of c) .args .least) (start (loop-of c) .args .most) (start (loop-of c) .args .laid .now))
-    → Turn (planned w) (v (loop-of c) (planned w)) (start (loop-of c) .args .p .now) (loop-of c .loop .p) (loop-of c .loop .from) (row (found-of c .before)) (last-at (larger-at c) .widen .result) (c .last-end .result)
-turn c w = record {
+    → Looked (planned w) (v (loop-of c) (planned w)) (start (loop-of c) .args .p .now) (loop-of c .loop .p) (loop-of c .loop .from) (row (found-of c .before)) (last-at (larger-at c) .widen .result) (c .last-end .result)
+looked c w = record {
   keeping = loop-of c .loop .inv w;
   settled = settled (found-of c) w;
   ready = w .ready;
@@ -96,7 +96,7 @@ some c = omega (arith, c .if2 .left)
 
 less : (c : tie.Else2 Inv-loop μ-loop)
     → (20001 - at (set (row (found-of (c .before) .before)) 0 (c .before .last-end .result)) 0 < 20001 - at (loop-of (c .before) .loop .p) 0) × (c .before .last-end .result ≤ 20000)
-less c = keeping-less (turn (c .before) (given (loop-of (c .before)) .plan)) (some c)
+less c = keeping-less (looked (c .before) (given (loop-of (c .before)) .plan)) (some c)
 
 -- ----
 
@@ -144,7 +144,7 @@ same-length : tie.Need-same-length Inv-loop μ-loop
 same-length c = size (found-of (c .before)) ∙ sym (given (loop-of (c .before)) .size)
 
 returns : tie.Need-returns Inv-loop μ-loop
-returns c = λ w. kept (turn (c .before) w) (c .if2 .taken)
+returns c = λ w. kept (looked (c .before) w) (c .if2 .taken)
 
 cast-p : tie.Need-cast-p Inv-loop μ-loop
 cast-p c = omega (arith, less c .1)
@@ -156,7 +156,7 @@ loop-less : tie.Need-loop-less Inv-loop μ-loop
 loop-less c = less c .0
 
 loop-again : tie.Need-loop-again Inv-loop μ-loop
-loop-again c = λ w. keeping-more (turn (c .before) w) (some c)
+loop-again c = λ w. keeping-more (looked (c .before) w) (some c)
 
 same-length-2 : tie.Need-same-length-2 Inv-loop μ-loop
 same-length-2 c =
