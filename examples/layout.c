@@ -13,6 +13,7 @@ FIELD(bedbloomer_slot, words, 0);
 FIELD(bedbloomer_slot, count, 16);
 FIELD(bedbloomer_slot, low, 24);
 FIELD(bedbloomer_slot, high, 26);
+FIELD(bedbloomer_slot, excluding, 28);
 
 SIZE(bedbloomer_pattern, 528);
 FIELD(bedbloomer_pattern, slots, 0);

@@ -6,6 +6,7 @@
  * - Every pointer is valid for its entries until the call returns: all may be read and, where it is not to const, written.
  * - What a call may write (a pointer that is not to const) overlaps nothing else lent to the same call, and nobody else
  *   reads or writes it before the call returns; what a call only reads may overlap, and nobody writes it meanwhile.
+ * - Every `excluding`, also of a slot that is not used, is true or false: its byte is 1 or 0.
  * - The thread has 1.5 MB of stack left (docs/BENCHMARK.md).
  *
  * A call keeps no pointer and no state, so calls on several threads do not meet. `number` is the refusal's number
@@ -18,15 +19,17 @@
 #ifndef BEDBLOOMER_H
 #define BEDBLOOMER_H
 
+#include <stdbool.h>
 #include <stddef.h>
 #include <stdint.h>
 
-/* A slot: the first `count` of its words, and the gap before it. */
+/* A slot: the first `count` of its words, the gap before it, and whether it takes these words or any word but these (never 0). */
 typedef struct {
     uint16_t words[8];
     size_t count;
     uint16_t low;
     uint16_t high;
+    bool excluding;
 } bedbloomer_slot;
 
 /* A pattern: the first `count` of its slots, and its span limits. */
@@ -116,8 +119,8 @@ bedbloomer_line_ends bedbloomer_line(const uint8_t *bytes, size_t byte_count, si
 
 /* A pattern without slots, with these span limits; the pattern with one slot more; its tests 1 to 5, alone and with 6 for a text of `words`. */
 bedbloomer_pattern bedbloomer_pattern_of(uint16_t least, uint16_t most);
-bedbloomer_made bedbloomer_with_slot(bedbloomer_pattern pattern, uint16_t low, uint16_t high, const uint16_t *words,
-                                     size_t word_count);
+bedbloomer_made bedbloomer_with_slot(bedbloomer_pattern pattern, uint16_t low, uint16_t high, bool excluding,
+                                     const uint16_t *words, size_t word_count);
 bedbloomer_answer bedbloomer_check_pattern(bedbloomer_pattern pattern);
 bedbloomer_answer bedbloomer_check(bedbloomer_pattern pattern, size_t words);
 

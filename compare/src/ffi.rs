@@ -3,7 +3,8 @@
 //! What the C header asks of a caller holds by the wrappers' types. A slice's pointer is not null, also without
 //! entries, is aligned, and is valid for as many entries as the slice has until the call returns; a slice that a call
 //! writes to is borrowed mutably, so it overlaps no other. Patterns and cursors go by value, and the library answers
-//! for any numbers in them. The stack is the caller's business: `tests/stack.rs` has threads of the size stated.
+//! for any numbers in them. A mark is 0 or 1 on both sides: Rust's `bool` is C's. The stack is the caller's business:
+//! `tests/stack.rs` has threads of the size stated.
 
 use crate::layout::{Answer, Cursors, Excerpted, Found, LineEnds, Made, Pattern, ReadBoth, Served};
 
@@ -22,7 +23,14 @@ extern "C" {
     ) -> ReadBoth;
     fn bedbloomer_line(bytes: *const u8, byte_count: usize, at: usize) -> LineEnds;
     fn bedbloomer_pattern_of(least: u16, most: u16) -> Pattern;
-    fn bedbloomer_with_slot(pattern: Pattern, low: u16, high: u16, words: *const u16, word_count: usize) -> Made;
+    fn bedbloomer_with_slot(
+        pattern: Pattern,
+        low: u16,
+        high: u16,
+        excluding: bool,
+        words: *const u16,
+        word_count: usize,
+    ) -> Made;
     fn bedbloomer_check(pattern: Pattern, words: usize) -> Answer;
     fn bedbloomer_check_pattern(pattern: Pattern) -> Answer;
     fn bedbloomer_is_occurrence(
@@ -131,10 +139,11 @@ pub fn pattern_of(least: u16, most: u16) -> Pattern {
     unsafe { bedbloomer_pattern_of(least, most) }
 }
 
-/// The pattern with one slot more.
-pub fn with_slot(pattern: &Pattern, low: u16, high: u16, words: &[u16]) -> Made {
-    // SAFETY: the pointer and the length are one slice's, borrowed during the call, which only reads it.
-    unsafe { bedbloomer_with_slot(*pattern, low, high, words.as_ptr(), words.len()) }
+/// The pattern with one slot more, marked or not.
+pub fn with_slot(pattern: &Pattern, low: u16, high: u16, excluding: bool, words: &[u16]) -> Made {
+    // SAFETY: the pointer and the length are one slice's, borrowed during the call, which only reads it; the mark is a
+    // `bool`, 0 or 1.
+    unsafe { bedbloomer_with_slot(*pattern, low, high, excluding, words.as_ptr(), words.len()) }
 }
 
 /// The tests of a pattern, and of a text of so many words.

@@ -2,7 +2,7 @@
 
 use std::mem::{offset_of, size_of};
 
-/// A slot: the first `count` of its words, and the gap before it.
+/// A slot: the first `count` of its words, the gap before it, and whether it takes any word but these.
 #[repr(C)]
 #[derive(Clone, Copy, Debug, Default, PartialEq, Eq)]
 pub struct Slot {
@@ -10,6 +10,7 @@ pub struct Slot {
     pub count: usize,
     pub low: u16,
     pub high: u16,
+    pub excluding: bool,
 }
 
 /// A pattern: the first `count` of its slots, and its span limits.
@@ -114,7 +115,7 @@ macro_rules! laid_out {
     };
 }
 
-laid_out!(Slot, 32, { words: 0, count: 16, low: 24, high: 26 });
+laid_out!(Slot, 32, { words: 0, count: 16, low: 24, high: 26, excluding: 28 });
 laid_out!(Pattern, 528, { slots: 0, count: 512, least: 520, most: 522 });
 laid_out!(Answer, 24, { number: 0, place: 8, value: 16 });
 laid_out!(Made, 544, { number: 0, place: 8, pattern: 16 });

@@ -6,10 +6,10 @@ use std::path::{Path, PathBuf};
 use std::process::{Command, Stdio};
 
 use compare::brute::report;
-use compare::cases::files::{damage, input, plain_pattern_file, text_file};
+use compare::cases::examples::EXAMPLES;
+use compare::cases::files::{damage, input, text_file, usual_pattern_file};
 use compare::cases::inputs::inputs;
 use compare::cases::random::{any_pattern, text_with_stops, Kind, STOPS};
-use compare::cases::worked::{CUT_INPUT, EXAMPLE_INPUT};
 use compare::rng::Rng;
 
 /// Where the program lies: `BEDBLOOMER_PROGRAM`, or else `../target/bin/bedbloomer`.
@@ -53,13 +53,13 @@ fn inputs_at_the_limits() {
     inputs().iter().for_each(|input| compare(input));
 }
 
-/// Texts with many, few and no sentence ends.
+/// Patterns of plain and excluding slots, texts with many, few and no sentence ends.
 #[test]
 fn cut_texts() {
     let mut rng = Rng::new(89);
     let kind = Kind { slots: (1, 5), highest_word: 2, most_words: 2, widest_gap: 5 };
     for round in 0..150 {
-        let pattern = plain_pattern_file(&any_pattern(&mut rng, &kind));
+        let pattern = usual_pattern_file(&any_pattern(&mut rng, &kind));
         let words = rng.within(0, 200);
         let text = text_with_stops(&mut rng, words, 2, STOPS[round % STOPS.len()]);
         compare(&input(&pattern, &text_file(&text)));
@@ -71,7 +71,7 @@ fn cut_texts() {
 fn damaged_inputs() {
     let mut rng = Rng::new(88);
     for round in 0..100 {
-        let mut input = [EXAMPLE_INPUT, CUT_INPUT][round % 2].to_vec();
+        let mut input = EXAMPLES[round % EXAMPLES.len()].0.to_vec();
         for _ in 0..rng.within(1, 3) {
             input = damage(&mut rng, &input);
             compare(&input);

@@ -4,9 +4,9 @@
 use std::thread::Builder;
 
 use compare::brute::report;
-use compare::cases::files::{input, plain_pattern_file, text_file};
-use compare::cases::inputs::sevens;
-use compare::cases::{pattern, ANY_SPAN};
+use compare::cases::files::{input, text_file, usual_pattern_file};
+use compare::cases::Words::{But, Only};
+use compare::cases::{alike, pattern, ANY_SPAN};
 use compare::ffi;
 use compare::layout::Pattern;
 
@@ -22,22 +22,25 @@ fn on_small_stack<T: Send + 'static>(call: impl FnOnce() -> T + Send + 'static) 
     thread.join().expect("the call returns")
 }
 
-/// Sixteen neighbouring sevens, the last perhaps a place later, with span limits that leave nothing out and with one that binds.
-fn runs() -> [Pattern; 2] {
-    let mut slots = sevens(16, 0, 0);
-    slots[15].1 = 1;
-    [ANY_SPAN, (16, 16)].map(|span| pattern(span, &slots))
+/// Sixteen neighbouring sevens, the last perhaps a place later, by plain and by excluding slots, with span limits that leave nothing
+/// out and with one that binds; with their tallies in the longest text of sevens.
+fn runs() -> Vec<(Pattern, usize)> {
+    let mut runs = Vec::new();
+    for words in [Only(&[7]), But(&[1, 2, 3, 4, 5, 6, 8, 9])] {
+        let mut slots = alike(words, 16, 0, 0);
+        slots[15].1 = 1;
+        runs.push((pattern(ANY_SPAN, &slots), 2 * COUNT - 1));
+        runs.push((pattern((16, 16), &slots), COUNT));
+    }
+    runs
 }
 
 /// The count in the longest text of sevens.
 const COUNT: usize = WORDS - 15;
 
-/// The tallies in it.
-const TALLIES: [usize; 2] = [2 * COUNT - 1, COUNT];
-
 #[test]
 fn the_tally_needs_little_stack() {
-    for (run, tally) in runs().into_iter().zip(TALLIES) {
+    for (run, tally) in runs() {
         let answer = on_small_stack(move || ffi::tally(&run, &vec![7; WORDS]));
         assert_eq!((answer.number, answer.value), (0, tally as u64));
     }
@@ -45,7 +48,7 @@ fn the_tally_needs_little_stack() {
 
 #[test]
 fn the_full_list_needs_little_stack() {
-    for (run, tally) in runs().into_iter().zip(TALLIES) {
+    for (run, tally) in runs() {
         let answer = on_small_stack(move || ffi::all(&run, &vec![7; WORDS], &mut vec![0; 16 * tally]));
         assert_eq!((answer.number, answer.value), (0, tally as u64));
     }
@@ -53,7 +56,7 @@ fn the_full_list_needs_little_stack() {
 
 #[test]
 fn the_lists_need_little_stack() {
-    for run in runs() {
+    for (run, _) in runs() {
         for call in [ffi::leftmost, ffi::rightmost] {
             let answer = on_small_stack(move || call(&run, &vec![7; WORDS], &mut vec![0; 16 * COUNT]));
             assert_eq!((answer.number, answer.value), (0, COUNT as u64));
@@ -63,17 +66,17 @@ fn the_lists_need_little_stack() {
 
 #[test]
 fn the_count_for_two_files_needs_little_stack() {
-    for run in runs() {
-        let (file, text) = (plain_pattern_file(&run), text_file(&[7; WORDS]));
+    for (run, _) in runs() {
+        let (file, text) = (usual_pattern_file(&run), text_file(&[7; WORDS]));
         assert_eq!(on_small_stack(move || ffi::count(&file, &text)), COUNT as u32);
     }
 }
 
 #[test]
 fn the_report_needs_little_stack() {
-    for run in runs() {
+    for (run, _) in runs() {
         // So few words that the rows fit, and the report goes on to the tally and the back list.
-        let whole = input(&plain_pattern_file(&run), &text_file(&[7; 1_000]));
+        let whole = input(&usual_pattern_file(&run), &text_file(&[7; 1_000]));
         let expected = report(&whole);
         let printed = on_small_stack(move || {
             let mut out = vec![0; 300_000];

@@ -26,11 +26,11 @@ pub fn read_pattern(bytes: &[u8]) -> Result<Pattern, Refusal> {
     }
 
     test_slot_count(slots.len())?;
-    let mut pattern = pattern_of(span.of("least")[0], span.of("most")[0]);
+    let mut pattern = pattern_of(span.number("least"), span.number("most"));
     for (index, slot) in slots.iter().enumerate() {
-        let (low, high) = (slot.of("low")[0], slot.of("high")[0]);
-        test_slot(index + 1, Some(slot.of("words")), low, high)?;
-        push_slot(&mut pattern, low, high, slot.of("words"));
+        let (low, high, words) = (slot.number("low"), slot.number("high"), slot.of("words"));
+        test_slot(index + 1, low, high, words.excluding, Some(&words.numbers))?;
+        push_slot(&mut pattern, low, high, words.excluding, &words.numbers);
     }
     test_span(pattern.least, pattern.most)?;
     Ok(pattern)
@@ -47,7 +47,7 @@ pub fn read_text(bytes: &[u8], room: usize) -> Result<Vec<u16>, Refusal> {
     let names = names(&lines, 1, &["word"])?;
     let mut words = Vec::new();
     for line in 2..=lines.len() {
-        words.push(values(&lines, line, &names)?.of("word")[0]);
+        words.push(values(&lines, line, &names)?.number("word"));
     }
 
     test_text(words.len())?;
@@ -129,30 +129,55 @@ fn values<'a>(lines: &[&str], line: usize, names: &[&'a str]) -> Result<Values<'
     }
     let mut values = Values(Vec::new());
     for (&name, field) in names.iter().zip(found) {
-        match numbers(field) {
-            Some(numbers) if name == "words" || numbers.len() == 1 => {
-                values.0.push((name, numbers));
-            }
-            _ => return refuse(11, line),
+        let value = if name == "words" { list(field) } else { single(field) };
+        match value {
+            Some(value) => values.0.push((name, value)),
+            None => return refuse(11, line),
         }
     }
     Ok(values)
 }
 
-/// The numbers of a line, by their names.
-struct Values<'a>(Vec<(&'a str, Vec<u16>)>);
+/// What a field says: numbers, and whether they are excluded.
+struct Value {
+    excluding: bool,
+    numbers: Vec<u16>,
+}
+
+/// The values of a line, by their names.
+struct Values<'a>(Vec<(&'a str, Value)>);
 
 impl Values<'_> {
-    /// The numbers under this name.
-    fn of(&self, name: &str) -> &[u16] {
+    /// The value under this name.
+    fn of(&self, name: &str) -> &Value {
         let named = self.0.iter().find(|(other, _)| *other == name);
         &named.expect("the line of names has been tested").1
     }
+
+    /// The single number under this name.
+    fn number(&self, name: &str) -> u16 {
+        self.of(name).numbers[0]
+    }
 }
 
-/// The numbers that a field is made of, joined by commas.
-fn numbers(field: &str) -> Option<Vec<u16>> {
-    field.split(',').map(number).collect()
+/// The value of a field of one number.
+fn single(field: &str) -> Option<Value> {
+    Some(Value { excluding: false, numbers: vec![number(field)?] })
+}
+
+/// The value of a field of words: numbers, or a `!` and the numbers that are excluded, perhaps none.
+fn list(field: &str) -> Option<Value> {
+    let (excluding, numbers) = match field.strip_prefix('!') {
+        None => (false, numbers(field)?),
+        Some("") => (true, Vec::new()),
+        Some(excluded) => (true, numbers(excluded)?),
+    };
+    Some(Value { excluding, numbers })
+}
+
+/// The numbers that a string is made of, joined by commas.
+fn numbers(joined: &str) -> Option<Vec<u16>> {
+    joined.split(',').map(number).collect()
 }
 
 /// The number that a string is written as, if it is written as we would write it.

@@ -15,7 +15,7 @@ pub fn test_text(words: usize) -> Result<(), Refusal> {
 pub fn test_pattern(pattern: &Pattern) -> Result<(), Refusal> {
     test_slot_count(pattern.count)?;
     for (index, slot) in pattern.slots.iter().take(pattern.count).enumerate() {
-        test_slot(index + 1, slot.words.get(..slot.count), slot.low, slot.high)?;
+        test_slot(index + 1, slot.low, slot.high, slot.excluding, slot.words.get(..slot.count))?;
     }
     test_span(pattern.least, pattern.most)
 }
@@ -28,9 +28,11 @@ pub fn test_slot_count(slots: usize) -> Result<(), Refusal> {
     }
 }
 
-/// Refuses the slot of this number; its words are `None` where more are stated than there is room for.
-pub fn test_slot(number: usize, words: Option<&[u16]>, low: u16, high: u16) -> Result<(), Refusal> {
-    let Some(words) = words.filter(|words| !words.is_empty() && words.len() <= 8) else {
+/// Refuses the slot of this number; its words are `None` where more are stated than there is room for. Only an
+/// excluding slot may have no words.
+pub fn test_slot(number: usize, low: u16, high: u16, excluding: bool, words: Option<&[u16]>) -> Result<(), Refusal> {
+    let fewest = if excluding { 0 } else { 1 };
+    let Some(words) = words.filter(|words| (fewest..=8).contains(&words.len())) else {
         return refuse(2, number);
     };
     if words.contains(&0) {
@@ -57,19 +59,22 @@ pub fn pattern_of(least: u16, most: u16) -> Pattern {
 }
 
 /// The pattern with one slot more, or as it was beside a refusal.
-pub fn with_slot(pattern: &Pattern, low: u16, high: u16, words: &[u16]) -> Made {
-    let tested = if pattern.count >= 16 { refuse(1, 0) } else { test_slot(pattern.count + 1, Some(words), low, high) };
+pub fn with_slot(pattern: &Pattern, low: u16, high: u16, excluding: bool, words: &[u16]) -> Made {
+    let tested = match pattern.count {
+        0..=15 => test_slot(pattern.count + 1, low, high, excluding, Some(words)),
+        _ => refuse(1, 0),
+    };
     let mut made = Made { number: 0, place: 0, pattern: *pattern };
     match tested {
-        Ok(()) => push_slot(&mut made.pattern, low, high, words),
+        Ok(()) => push_slot(&mut made.pattern, low, high, excluding, words),
         Err(refusal) => (made.number, made.place) = (refusal.number, refusal.place),
     }
     made
 }
 
 /// Puts a slot behind the pattern's last.
-pub fn push_slot(pattern: &mut Pattern, low: u16, high: u16, words: &[u16]) {
-    let mut slot = Slot { words: [0; 8], count: words.len(), low, high };
+pub fn push_slot(pattern: &mut Pattern, low: u16, high: u16, excluding: bool, words: &[u16]) {
+    let mut slot = Slot { words: [0; 8], count: words.len(), low, high, excluding };
     slot.words[..words.len()].copy_from_slice(words);
     pattern.slots[pattern.count] = slot;
     pattern.count += 1;

@@ -14,6 +14,8 @@ mod report;
 mod rows;
 #[cfg(test)]
 mod self_tests;
+#[cfg(test)]
+mod self_tests_excluding;
 mod ways;
 mod windowed;
 

@@ -8,9 +8,14 @@ pub fn slots(pattern: &Pattern) -> &[Slot] {
     &pattern.slots[..pattern.count]
 }
 
-/// Whether the slot takes the word.
+/// Whether the slot takes the word: one that it lists, or if it is excluding, any number from 1 up that it does not.
 pub fn takes(slot: &Slot, word: u16) -> bool {
-    slot.words[..slot.count].contains(&word)
+    let lists = slot.words[..slot.count].contains(&word);
+    if slot.excluding {
+        word >= 1 && !lists
+    } else {
+        lists
+    }
 }
 
 /// Whether the text has, at this place, a word that the slot takes.

@@ -1,15 +1,17 @@
-//! The brute force against the scope's examples and texts with sentence ends, and its methods against each other.
+//! The brute force against the scope's examples and the worked texts, and its methods against each other.
 
 use super::occurrences::{keeps_to_one_sentence, occurrences};
 use super::*;
-use crate::cases::files::{plain_pattern_file, text_file};
+use crate::cases::examples::EXAMPLES;
+use crate::cases::files::{text_file, usual_pattern_file};
 use crate::cases::inputs::sevens;
 use crate::cases::lines::small_files;
 use crate::cases::random::{any_marks, any_pattern, any_text, Kind};
 use crate::cases::sentences::{cut_at, joined, sentences, without_stops};
 use crate::cases::small::{patterns, texts, tuples};
 use crate::cases::tallies::{equal_sentences, one_below_power, power, sixteen_words, thresholds};
-use crate::cases::worked::{Rows, CUT_INPUT, CUT_OUTPUT, CUT_TEXTS, EXAMPLE_INPUT, EXAMPLE_OUTPUT, TEXTS};
+use crate::cases::worked::{worked_texts, Rows};
+use crate::cases::Words::{But, Only};
 use crate::cases::{pattern, ANY_SPAN};
 use crate::layout::Cursors;
 use crate::rng::Rng;
@@ -21,10 +23,10 @@ fn assert_rows(named: Option<Rows>, rows: &[Row]) {
     }
 }
 
-/// The nine texts and those with sentence ends, by both methods.
+/// The nine texts, those with sentence ends and those for excluding slots, by both methods.
 #[test]
-fn worked_texts() {
-    for case in TEXTS.iter().chain(&CUT_TEXTS) {
+fn stated_rows() {
+    for case in worked_texts() {
         let pattern = pattern(case.span, case.slots);
         let listed = Brute::enumerated(&pattern, case.text);
         let sieved = Brute::windowed(&pattern, case.text);
@@ -46,11 +48,12 @@ fn worked_texts() {
     }
 }
 
-/// The program's example and the one with sentence ends, byte for byte.
+/// The program's examples, byte for byte.
 #[test]
-fn worked_reports() {
-    assert_eq!(report(EXAMPLE_INPUT), EXAMPLE_OUTPUT);
-    assert_eq!(report(CUT_INPUT), CUT_OUTPUT);
+fn stated_reports() {
+    for (input, output) in EXAMPLES {
+        assert_eq!(report(input), output);
+    }
 }
 
 /// A sentence end counts strictly between a row's first and last place, and there alone; the row is any row.
@@ -74,7 +77,7 @@ fn sentence_ends_between() {
 /// A 0 at each place in turn, for a row of three slots: it leaves the row an occurrence outside it alone.
 #[test]
 fn a_stop_at_each_place() {
-    let pattern = pattern(ANY_SPAN, &[(0, 0, &[1]), (1, 1, &[2]), (1, 1, &[3])]);
+    let pattern = pattern(ANY_SPAN, &[(0, 0, Only(&[1])), (1, 1, Only(&[2])), (1, 1, Only(&[3]))]);
     let text = vec![9, 9, 1, 9, 2, 9, 3, 9, 9];
     for place in 1..=9 {
         let cut = cut_at(&[place], text.clone());
@@ -106,7 +109,7 @@ fn refused(span: &str, slots: &str) -> (u32, usize) {
 fn refusals_of_calls() {
     assert_eq!(check(&pattern_of(1, 20_000), 0).number, 1);
     let accepted = pattern(ANY_SPAN, &sevens(3, 0, 1));
-    let nine = with_slot(&accepted, 0, 0, &[7; 9]);
+    let nine = with_slot(&accepted, 0, 0, false, &[7; 9]);
     assert_eq!((nine.number, nine.place, nine.pattern), (2, 4, accepted));
     assert_eq!(refused("1 20000", "0 0 0\n"), (3, 1));
     assert_eq!(refused("1 20000", "0 0 7\n3 2 7\n"), (4, 2));
@@ -220,9 +223,9 @@ fn files_read_back() {
     let kind = Kind { slots: (1, 16), highest_word: 65_535, most_words: 8, widest_gap: 63 };
     for _ in 0..200 {
         let written = any_pattern(&mut rng, &kind);
-        let read = made_from_file(&plain_pattern_file(&written));
+        let read = made_from_file(&usual_pattern_file(&written));
         assert_eq!((read.number, read.place), (0, 0));
-        assert_eq!(plain_pattern_file(&read.pattern), plain_pattern_file(&written));
+        assert_eq!(usual_pattern_file(&read.pattern), usual_pattern_file(&written));
         let text = any_text(&mut rng, 50, 65_535);
         let mut words = [9; 50];
         assert_eq!(words_from_file(&text_file(&text), &mut words).value, 50);
@@ -235,7 +238,7 @@ fn files_read_back() {
 fn occurrences_are_all_rows_that_pass() {
     let gaps = [(0, 0), (0, 2), (1, 2)];
     let spans = [ANY_SPAN, (4, 5)];
-    for pattern in patterns(3, &[&[1], &[1, 2]], &gaps, &spans) {
+    for pattern in patterns(3, &[Only(&[1]), Only(&[1, 2]), But(&[1])], &gaps, &spans) {
         for text in texts(&[0, 1, 2], 5) {
             let places: Vec<u16> = (0..=text.len() as u16 + 1).collect();
             let mut rows = tuples(&places, 3);
@@ -255,8 +258,9 @@ fn moved(rows: &[Row], by: u16) -> Vec<Row> {
 #[test]
 fn occurrences_sentence_by_sentence() {
     let gaps = [(0, 1), (0, 3)];
-    for pattern in [patterns(1, &[&[1]], &gaps, &[ANY_SPAN]), patterns(3, &[&[1], &[1, 2]], &gaps, &[(3, 5)])].concat()
-    {
+    let one = patterns(1, &[Only(&[1]), But(&[1]), But(&[])], &gaps, &[ANY_SPAN]);
+    let three = patterns(3, &[Only(&[1]), Only(&[1, 2]), But(&[1])], &gaps, &[(3, 5)]);
+    for pattern in [one, three].concat() {
         for text in texts(&[0, 1, 2], 7) {
             let (listed, sieved) = (Brute::enumerated(&pattern, &text), Brute::windowed(&pattern, &text));
             let rows = listed.searcher().unwrap().rows();

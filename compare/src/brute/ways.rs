@@ -1,6 +1,6 @@
 //! The tally in long texts: for each first place, the ways to reach each later place of its sentence, slot after slot.
 
-use super::occurrences::{slots, takes};
+use super::occurrences::slots;
 use crate::layout::{Pattern, Slot};
 
 /// How many occurrences there are; below 20,000 · 64^15 < 2^105, so it never overflows.
@@ -10,9 +10,15 @@ pub fn tally(pattern: &Pattern, text: &[u16]) -> u128 {
 
 /// How many occurrences there are in one sentence.
 fn tally_in(pattern: &Pattern, sentence: &[u16]) -> u128 {
-    let begins = |first: &usize| takes(&pattern.slots[0], sentence[*first]);
+    let begins = |first: &usize| fits(&pattern.slots[0], sentence[*first]);
     let firsts = (0..sentence.len()).filter(begins);
     firsts.map(|first| tally_from(pattern, &sentence[first..])).sum()
+}
+
+/// Whether the slot takes a word of a sentence, which is never 0: it lists just the words that it takes, or just those
+/// that it excludes.
+fn fits(slot: &Slot, word: u16) -> bool {
+    slot.words[..slot.count].contains(&word) != slot.excluding
 }
 
 /// How many occurrences begin at the first of these words, which the first slot takes.
@@ -36,11 +42,9 @@ fn ways_to(slot: &Slot, before: &[u128], words: &[u16]) -> Vec<u128> {
     let sum_below = |bound: usize| up_to[bound.min(before.len())];
     let reached = (before.len() + high + 1).min(words.len());
     let ways = |offset: usize| {
-        let fits = takes(slot, words[offset]);
         let (nearest, farthest) = (offset.saturating_sub(low), offset.saturating_sub(high + 1));
-        let sum = sum_below(nearest) - sum_below(farthest);
-        if fits {
-            sum
+        if fits(slot, words[offset]) {
+            sum_below(nearest) - sum_below(farthest)
         } else {
             0
         }

@@ -1,10 +1,10 @@
 //! Searches in long texts: for each first place, a sieve over the places within reach of it.
 
 use super::bits::{Bits, ROOM};
-use super::occurrences::{is_occurrence, slots, stands, takes};
+use super::occurrences::{is_occurrence, slots};
 use super::rows::{slot_by_slot, Row, Searcher};
 use super::ways::tally;
-use crate::layout::Pattern;
+use crate::layout::{Pattern, Slot};
 
 /// A pattern and a text, and both the other way round for searches from the end.
 pub struct Windowed {
@@ -51,6 +51,17 @@ fn places(text: &[u16], holds: impl Fn(u16) -> bool) -> Vec<u64> {
     places
 }
 
+/// The places, as bits, that a slot may take: those of the words it lists, or if it is excluding, all that are left
+/// without those and without the sentence ends.
+fn taken(slot: &Slot, text: &[u16], stops: &[u64]) -> Vec<u64> {
+    let listed = places(text, |word| slot.words[..slot.count].contains(&word));
+    if !slot.excluding {
+        return listed;
+    }
+    let all = places(text, |_| true);
+    (0..all.len()).map(|block| all[block] & !listed[block] & !stops[block]).collect()
+}
+
 impl Searcher for Windowed {
     fn slots(&self) -> usize {
         self.ahead.pattern.count
@@ -86,8 +97,8 @@ struct Sieve {
 impl Sieve {
     /// Works out the places that each slot may take, and those of the sentence ends.
     fn new(pattern: Pattern, text: Vec<u16>) -> Sieve {
-        let taken = slots(&pattern).iter().map(|slot| places(&text, |word| takes(slot, word))).collect();
         let stops = places(&text, |word| word == 0);
+        let taken = slots(&pattern).iter().map(|slot| taken(slot, &text, &stops)).collect();
         let spans = pattern.least as usize..=pattern.most as usize;
         let within_span = Bits::of(|offset| spans.contains(&(offset + 1)));
         Sieve { pattern, text, taken, stops, within_span }
@@ -124,7 +135,7 @@ impl Sieve {
     /// The offsets from `first` that the occurrences past the marks that begin there have at each slot, if there are any.
     fn kept(&self, first: u16, marks: &[u16]) -> Option<Vec<Bits>> {
         let slots = slots(&self.pattern);
-        if !stands(&slots[0], &self.text, first) {
+        if !self.open(0, first, marks[0]).contains(0) {
             return None;
         }
         let mut kept = vec![Bits::zero_alone()];

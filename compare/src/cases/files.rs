@@ -1,6 +1,7 @@
 //! Pattern files and text files, good ones and damaged ones.
 
-use crate::layout::Pattern;
+use super::small::texts;
+use crate::layout::{Pattern, Slot};
 use crate::rng::Rng;
 
 /// The orders of the two names of the span limits.
@@ -15,16 +16,22 @@ pub fn pattern_file(pattern: &Pattern, span: [usize; 2], slot: [usize; 3]) -> Ve
     file += &line([pattern.least, pattern.most].map(|limit| limit.to_string()), span);
     file += &line(["low", "high", "words"].map(String::from), slot);
     for stated in &pattern.slots[..pattern.count] {
-        let words: Vec<String> = stated.words[..stated.count].iter().map(u16::to_string).collect();
-        let fields = [stated.low.to_string(), stated.high.to_string(), words.join(",")];
+        let fields = [stated.low.to_string(), stated.high.to_string(), words(stated)];
         file += &line(fields, slot);
     }
     file.into_bytes()
 }
 
 /// The pattern file of a pattern, its names in the usual order.
-pub fn plain_pattern_file(pattern: &Pattern) -> Vec<u8> {
+pub fn usual_pattern_file(pattern: &Pattern) -> Vec<u8> {
     pattern_file(pattern, SPAN_ORDERS[0], SLOT_ORDERS[0])
+}
+
+/// The field of a slot's words: a `!` if it is excluding, and the words joined by commas.
+fn words(slot: &Slot) -> String {
+    let mark = if slot.excluding { "!" } else { "" };
+    let listed: Vec<String> = slot.words[..slot.count].iter().map(u16::to_string).collect();
+    format!("{mark}{}", listed.join(","))
 }
 
 /// A line of these fields in this order.
@@ -47,7 +54,7 @@ pub fn input(pattern: &[u8], text: &[u8]) -> Vec<u8> {
 }
 
 /// Bytes that a damaged file may contain: each means something somewhere, or nothing anywhere.
-pub const BYTES: &[u8] = b"\n\r \t,0123679lmwx-+.\x00\x0B\x7F\x80\xFF";
+pub const BYTES: &[u8] = b"\n\r \t,!0123679lmwx-+.\x00\x0B\x7F\x80\xFF";
 
 /// The file cut short before each of its bytes, and without that byte, with it doubled, and with others in its place.
 pub fn damages_at(file: &[u8], at: usize, bytes: &[u8]) -> Vec<Vec<u8>> {
@@ -58,6 +65,20 @@ pub fn damages_at(file: &[u8], at: usize, bytes: &[u8]) -> Vec<Vec<u8>> {
         damaged.push([before, &[byte], from].concat());
     }
     damaged
+}
+
+/// All fields of up to 5 bytes over `!`, `,`, `0`, `1` and the space.
+pub fn small_fields() -> Vec<String> {
+    let bytes = [b'!', b',', b'0', b'1', b' '].map(u16::from);
+    let field = |bytes: &Vec<u16>| bytes.iter().map(|&byte| char::from(byte as u8)).collect();
+    texts(&bytes, 5).iter().map(field).collect()
+}
+
+/// The file with a `!` put in at every offset, and in the place of every byte.
+pub fn marked_everywhere(file: &[u8]) -> Vec<Vec<u8>> {
+    let put_in = (0..=file.len()).map(|at| [&file[..at], b"!", &file[at..]].concat());
+    let put_for = (0..file.len()).map(|at| [&file[..at], b"!", &file[at + 1..]].concat());
+    put_in.chain(put_for).collect()
 }
 
 /// The file with one random damage; called again on its result, it does one more.

@@ -1,20 +1,22 @@
 //! Inputs of the program: good ones, refused ones, and those at its limits.
 
-use super::files::{input, plain_pattern_file, text_file};
+use super::examples::EXAMPLES;
+use super::files::{input, text_file, usual_pattern_file};
 use super::sentences::{cut_at, cut_every, joined};
-use super::worked::{CUT_INPUT, CUT_TEXTS, EXAMPLE_INPUT, TEXTS};
-use super::{pattern, Written, ANY_SPAN};
+use super::worked::{worked_texts, Worked};
+use super::Words::{But, Only};
+use super::{alike, pattern, Written, ANY_SPAN};
 
 /// So many slots that take the word 7, with these gaps between them.
 pub fn sevens(slots: usize, low: u16, high: u16) -> Vec<Written<'static>> {
-    let gap = |at: usize| {
-        if at == 0 {
-            (0, 0, &[7][..])
-        } else {
-            (low, high, &[7][..])
-        }
-    };
-    (0..slots).map(gap).collect()
+    alike(Only(&[7]), slots, low, high)
+}
+
+/// The same, every other slot by excluding other words.
+pub fn mixed_sevens(slots: usize, low: u16, high: u16) -> Vec<Written<'static>> {
+    let mut mixed = sevens(slots, low, high);
+    mixed.iter_mut().step_by(2).for_each(|slot| slot.2 = But(&[8, 9]));
+    mixed
 }
 
 /// The input for these slots and a text of so many sevens.
@@ -24,16 +26,16 @@ fn sevens_input(slots: &[Written], words: usize) -> Vec<u8> {
 
 /// The input for these slots, without span limits that bind, and a text.
 fn any_span_input(slots: &[Written], text: &[u16]) -> Vec<u8> {
-    input(&plain_pattern_file(&pattern(ANY_SPAN, slots)), &text_file(text))
+    input(&usual_pattern_file(&pattern(ANY_SPAN, slots)), &text_file(text))
 }
 
 /// The worked texts as inputs.
 fn worked() -> Vec<Vec<u8>> {
-    let worked = TEXTS.iter().chain(&CUT_TEXTS).map(|case| {
-        let file = plain_pattern_file(&pattern(case.span, case.slots));
+    let worked = |case: &Worked| {
+        let file = usual_pattern_file(&pattern(case.span, case.slots));
         input(&file, &text_file(case.text))
-    });
-    worked.collect()
+    };
+    worked_texts().map(worked).collect()
 }
 
 /// Inputs on both sides of the room for lists, of the tally's limit, and of the limits on words and bytes.
@@ -90,6 +92,26 @@ fn cut_at_limits() -> Vec<Vec<u8>> {
     inputs
 }
 
+/// Inputs on both sides of the room for lists and of the tally's limit, all slots or every other one excluding.
+fn excluding_at_limits() -> Vec<Vec<u8>> {
+    let any = But(&[]);
+    let eight = But(&[1, 2, 3, 4, 5, 6, 8, 9]);
+    let wide = mixed_sevens(16, 0, 63);
+    let inputs = [
+        (alike(any, 1, 0, 0), vec![7; 16_000]),
+        (alike(any, 1, 0, 0), vec![7; 16_001]),
+        (alike(any, 1, 0, 0), cut_every(5, vec![7; 20_000])),
+        (alike(any, 1, 0, 0), cut_every(6, vec![7; 20_000])),
+        (alike(eight, 2, 0, 63), cut_every(5, vec![7; 13_333])),
+        (alike(eight, 2, 0, 63), cut_every(5, vec![7; 13_334])),
+        (alike(eight, 16, 0, 63), vec![7; 1_015]),
+        (alike(But(&[7]), 3, 0, 63), vec![7; 1_015]),
+        (wide.clone(), vec![7; 116]),
+        (wide, vec![7; 117]),
+    ];
+    inputs.map(|(slots, text)| any_span_input(&slots, &text)).to_vec()
+}
+
 /// The input with lines of 5 bytes added, and a line of 2 to 6 bytes, up to exactly so many bytes.
 fn padded(input: &[u8], bytes: usize) -> Vec<u8> {
     let mut padded = input.to_vec();
@@ -106,7 +128,7 @@ fn padded(input: &[u8], bytes: usize) -> Vec<u8> {
 /// Inputs that are refused, or parted in odd ways.
 fn odd() -> Vec<Vec<u8>> {
     let good = b"least most\n1 20000\nlow high words\n0 0 7\n";
-    let tails: [&[u8]; 16] = [
+    let tails: [&[u8]; 24] = [
         b"",
         b"\n",
         b"\nword\n",
@@ -123,6 +145,14 @@ fn odd() -> Vec<Vec<u8>> {
         b"0 01 7\n\nword\n7\n",
         b"0 0 1,2,3,4,5,6,7,8,9\n\nwrd\n",
         b"0 0 0\n\nword\n7\n",
+        b"0 0 !\n\nword\n7\n7\n0\n",
+        b"0 0 !7\n\nword\n7\n7\n8\n",
+        b"0 0 !0\n\nword\n7\n",
+        b"0 0 !!\n\nword\n7\n",
+        b"0 0 !1,2,3,4,5,6,7,8\n\nword\n7\n9\n",
+        b"0 0 !1,2,3,4,5,6,7,8,9\n\nword\n7\n9\n",
+        b"0 0 7!\n\nword\n7\n",
+        b"0 0 7\n\nword\n!7\n",
     ];
     let mut inputs: Vec<Vec<u8>> = tails.iter().map(|tail| [good, *tail].concat()).collect();
     let whole: [&[u8]; 10] = [
@@ -143,6 +173,6 @@ fn odd() -> Vec<Vec<u8>> {
 
 /// Some dozens of inputs.
 pub fn inputs() -> Vec<Vec<u8>> {
-    let examples = vec![EXAMPLE_INPUT.to_vec(), CUT_INPUT.to_vec()];
-    [examples, worked(), at_limits(), cut_at_limits(), odd()].concat()
+    let examples = EXAMPLES.map(|(input, _)| input.to_vec()).to_vec();
+    [examples, worked(), at_limits(), cut_at_limits(), excluding_at_limits(), odd()].concat()
 }

@@ -1,6 +1,6 @@
 //! Patterns, texts, rows and marks at random.
 
-use super::{pattern, Written, ANY_SPAN};
+use super::{pattern, Words, Written, ANY_SPAN};
 use crate::layout::{Cursors, Pattern, Slot};
 use crate::rng::Rng;
 
@@ -12,20 +12,45 @@ pub struct Kind {
     pub widest_gap: u16,
 }
 
-/// A pattern within the limits, its entries past the stated numbers at random.
+/// How often a slot of a pattern at random is excluding: once in so many slots, or never.
+const EXCLUDING: [Option<usize>; 4] = [Some(1), Some(2), Some(4), None];
+
+/// A pattern within the limits; all, many, few or none of its slots are excluding, and its entries past the stated
+/// numbers are at random.
 pub fn any_pattern(rng: &mut Rng, kind: &Kind) -> Pattern {
+    let every = rng.pick(&EXCLUDING);
     let mut slots = Vec::new();
     for at in 0..rng.within(kind.slots.0, kind.slots.1) {
-        let count = rng.within(1, kind.most_words);
-        let words: Vec<u16> = (0..count).map(|_| rng.word(1, kind.highest_word)).collect();
+        let excluding = every.is_some_and(|slots| rng.once_in(slots));
+        let words = if excluding { any_excluded(rng, kind) } else { any_words(rng, kind) };
         let (one, other) = (rng.word(0, kind.widest_gap), rng.word(0, kind.widest_gap));
         let gap = if at == 0 { (0, 0) } else { (one.min(other), one.max(other)) };
-        slots.push((gap.0, gap.1, words));
+        slots.push((gap, excluding, words));
     }
-    let written: Vec<Written> = slots.iter().map(|(low, high, words)| (*low, *high, &words[..])).collect();
+    let written: Vec<Written> =
+        slots.iter().map(|(gap, excluding, words)| (gap.0, gap.1, Words::new(*excluding, words))).collect();
     let mut made = pattern(any_span(rng, &written), &written);
     add_garbage(rng, &mut made);
     made
+}
+
+/// Words for a plain slot.
+fn any_words(rng: &mut Rng, kind: &Kind) -> Vec<u16> {
+    let count = rng.within(1, kind.most_words);
+    (0..count).map(|_| rng.word(1, kind.highest_word)).collect()
+}
+
+/// Words for an excluding slot, often none and now and then 8; they leave it one word at least that plain slots take.
+fn any_excluded(rng: &mut Rng, kind: &Kind) -> Vec<u16> {
+    let count = match rng.within(1, 8) {
+        1 | 2 => 0,
+        3 => 8,
+        _ => rng.within(1, kind.most_words),
+    };
+    let left = rng.word(1, kind.highest_word);
+    let next = left % 65_535 + 1;
+    let listed = |word: u16| if word == left { next } else { word };
+    (0..count).map(|_| listed(rng.word(1, kind.highest_word))).collect()
 }
 
 /// Span limits that some rows keep and others break.
@@ -60,6 +85,7 @@ fn any_slot(rng: &mut Rng) -> Slot {
         count: rng.pick(&[0, 1, 8, 9, 65_535, usize::MAX]),
         low: rng.word(0, 65_535),
         high: rng.word(0, 65_535),
+        excluding: rng.once_in(2),
     }
 }
 
@@ -84,14 +110,25 @@ pub fn text_with_stops(rng: &mut Rng, length: usize, highest: u16, stops: Option
     (0..length).map(|_| word(rng)).collect()
 }
 
+/// Numbers of words that a slot may not have, the first of them only if it is plain.
+const WRONG_COUNTS: [usize; 4] = [0, 9, 65_535, usize::MAX];
+
+/// Puts the word 0 among those that the slot lists; where an excluding slot lists none, it is the first.
+fn list_zero(rng: &mut Rng, slot: &mut Slot) {
+    if slot.excluding {
+        slot.count = slot.count.max(1);
+    }
+    slot.words[rng.within(1, slot.count.clamp(1, 8)) - 1] = 0;
+}
+
 /// Breaks one limit of the pattern; called again, it breaks one more.
 pub fn break_pattern(rng: &mut Rng, pattern: &mut Pattern) {
     let slots = pattern.count.clamp(1, 16);
     let slot = &mut pattern.slots[rng.within(1, slots) - 1];
     match rng.within(1, 8) {
         1 => pattern.count = rng.pick(&[0, 17, 65_535, usize::MAX]),
-        2 | 3 => slot.count = rng.pick(&[0, 9, 65_535, usize::MAX]),
-        4 | 5 => slot.words[rng.within(1, slot.count.clamp(1, 8)) - 1] = 0,
+        2 | 3 => slot.count = rng.pick(&WRONG_COUNTS[usize::from(slot.excluding)..]),
+        4 | 5 => list_zero(rng, slot),
         6 => (slot.low, slot.high) = rng.pick(&[(1, 0), (64, 64), (0, 64), (65_535, 63), (0, 65_535)]),
         7 => pattern.slots[0].high = 1,
         _ => (pattern.least, pattern.most) = rng.pick(&[(0, 5), (0, 0), (6, 5), (1, 20_001), (1, 65_535)]),

@@ -19,12 +19,12 @@ pub fn joined(text: &[u16], other: &[u16]) -> Vec<u16> {
     [text, &[0], other].concat()
 }
 
-/// The text with a word that no slot takes instead of every 0: its occurrences are the rows that keep all rules but
-/// the one on sentence ends.
+/// The text with a word that no slot lists instead of every 0: its occurrences are the rows that keep all rules but
+/// those on the 0, that it ends a sentence and that an excluding slot never takes it.
 pub fn without_stops(pattern: &Pattern, text: &[u16]) -> Vec<u16> {
     let slots = &pattern.slots[..pattern.count];
-    let taken = |word: &u16| slots.iter().any(|slot| slot.words[..slot.count].contains(word));
-    let other = (1..=65_535).find(|word| !taken(word)).expect("a pattern takes 128 words at most");
+    let listed = |word: &u16| slots.iter().any(|slot| slot.words[..slot.count].contains(word));
+    let other = (1..=65_535).find(|word| !listed(word)).expect("a pattern lists 128 words at most");
     text.iter().map(|&word| if word == 0 { other } else { word }).collect()
 }
 

@@ -1,6 +1,6 @@
 //! All small texts and patterns.
 
-use super::pattern;
+use super::{pattern, Words};
 use crate::layout::Pattern;
 
 /// All texts over these words, from the empty text up to this length.
@@ -21,8 +21,8 @@ pub fn tuples(choices: &[u16], length: usize) -> Vec<Vec<u16>> {
     rows
 }
 
-/// All patterns with so many slots, the slots taken from these sets of words, the gaps and span limits from these.
-pub fn patterns(slots: usize, sets: &[&[u16]], gaps: &[(u16, u16)], spans: &[(u16, u16)]) -> Vec<Pattern> {
+/// All patterns with so many slots, their words, gaps and span limits taken from these.
+pub fn patterns(slots: usize, sets: &[Words], gaps: &[(u16, u16)], spans: &[(u16, u16)]) -> Vec<Pattern> {
     let mut found = Vec::new();
     let chosen_sets = tuples(&indices(sets.len()), slots);
     let chosen_gaps = tuples(&indices(gaps.len()), slots - 1);

@@ -1,6 +1,7 @@
 //! Texts whose tallies stand at the limit of 64 bits.
 
-use super::inputs::sevens;
+use super::inputs::{mixed_sevens, sevens};
+use super::Words::Only;
 use super::{pattern, Written, ANY_SPAN};
 use crate::layout::Pattern;
 
@@ -8,7 +9,7 @@ use crate::layout::Pattern;
 pub fn sixteen_words() -> Pattern {
     const WORDS: [[u16; 1]; 16] =
         [[1], [2], [3], [4], [5], [6], [7], [8], [9], [10], [11], [12], [13], [14], [15], [16]];
-    let slot = |at: usize| (0, if at == 0 { 0 } else { 63 }, &WORDS[at][..]);
+    let slot = |at: usize| (0, if at == 0 { 0 } else { 63 }, Only(&WORDS[at]));
     let slots: Vec<Written> = (0..16).map(slot).collect();
     pattern(ANY_SPAN, &slots)
 }
@@ -46,10 +47,12 @@ pub fn equal_sentences(sentences: usize) -> Vec<u16> {
     [product(std::array::from_fn(times)), vec![0]].concat().repeat(sentences)
 }
 
-/// Slots of the word 7 with gaps 0 to 63, the first number of sevens whose tally is over 64 bits, and the first number
-/// whose tally together with that of a sentence one seven below the former is.
+/// Slots that take the word 7, plain and mixed, with gaps 0 to 63, the first number of sevens whose tally is over 64 bits,
+/// and the first number whose tally together with that of a sentence one seven below the former is.
 pub fn thresholds() -> Vec<(Pattern, usize, usize)> {
     let first_over = [(11, 309, 183), (12, 222, 172), (13, 179, 137), (14, 151, 120), (15, 131, 112), (16, 117, 99)];
-    let patterns = first_over.map(|(slots, words, others)| (pattern(ANY_SPAN, &sevens(slots, 0, 63)), words, others));
-    patterns.to_vec()
+    let both = |(slots, words, others)| {
+        [sevens, mixed_sevens].map(|sevens| (pattern(ANY_SPAN, &sevens(slots, 0, 63)), words, others))
+    };
+    first_over.into_iter().flat_map(both).collect()
 }

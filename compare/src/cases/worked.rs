@@ -1,12 +1,14 @@
 //! The scope's nine texts, with the rows it names for them, and texts with sentence ends, with rows found by hand.
 
+use super::excluding::EXCLUDING_TEXTS;
+use super::Words::Only;
 use super::{Written, ANY_SPAN};
 
 /// A list of rows.
 pub type Rows = &'static [&'static [u16]];
 
-/// A text and a pattern, with what the scope says of them or Job 1 of document 02 means for them; `None` where the
-/// scope does not say.
+/// A text and a pattern, with what the scope says of them or Jobs 1 and 2 of document 02 mean for them; `None` where
+/// the scope does not say.
 pub struct Worked {
     pub text: &'static [u16],
     pub slots: &'static [Written<'static>],
@@ -18,22 +20,27 @@ pub struct Worked {
     pub no_occurrences: Rows,
 }
 
+/// All texts of the tables.
+pub fn worked_texts() -> impl Iterator<Item = &'static Worked> {
+    TEXTS.iter().chain(&CUT_TEXTS).chain(&EXCLUDING_TEXTS)
+}
+
 /// The letters' words: their places in the alphabet.
-const A: u16 = 1;
-const B: u16 = 2;
-const C: u16 = 3;
+pub const A: u16 = 1;
+pub const B: u16 = 2;
+pub const C: u16 = 3;
 const G: u16 = 7;
 const T: u16 = 20;
-const X: u16 = 24;
+pub const X: u16 = 24;
 
 /// aggcaaga.
 const AGGCAAGA: &[u16] = &[A, G, G, C, A, A, G, A];
 
 /// a[0,1]g[0,1]a.
-const AGA: &[Written] = &[(0, 0, &[A]), (0, 1, &[G]), (0, 1, &[A])];
+const AGA: &[Written] = &[(0, 0, Only(&[A])), (0, 1, Only(&[G])), (0, 1, Only(&[A]))];
 
 /// The nine texts.
-pub const TEXTS: [Worked; 9] = [
+static TEXTS: [Worked; 9] = [
     Worked {
         text: AGGCAAGA,
         slots: AGA,
@@ -56,7 +63,7 @@ pub const TEXTS: [Worked; 9] = [
     },
     Worked {
         text: &[A, A, T, T, A, T, A, T, T],
-        slots: &[(0, 0, &[A]), (0, 1, &[T]), (0, 1, &[A])],
+        slots: &[(0, 0, Only(&[A])), (0, 1, Only(&[T])), (0, 1, Only(&[A]))],
         span: (3, 4),
         count: 2,
         all: None,
@@ -66,7 +73,7 @@ pub const TEXTS: [Worked; 9] = [
     },
     Worked {
         text: &[A, C, T, A, T, A, A, G, G],
-        slots: &[(0, 0, &[A]), (0, 1, &[T]), (0, 1, &[A]), (1, 3, &[G])],
+        slots: &[(0, 0, Only(&[A])), (0, 1, Only(&[T])), (0, 1, Only(&[A])), (1, 3, Only(&[G]))],
         span: ANY_SPAN,
         count: 2,
         all: None,
@@ -76,7 +83,7 @@ pub const TEXTS: [Worked; 9] = [
     },
     Worked {
         text: &[A, T, A, T, G, T, A, G, A, T, G, A, T, T, G, A],
-        slots: &[(0, 0, &[A]), (0, 2, &[T]), (0, 2, &[G]), (0, 1, &[A])],
+        slots: &[(0, 0, Only(&[A])), (0, 2, Only(&[T])), (0, 2, Only(&[G])), (0, 1, Only(&[A]))],
         span: ANY_SPAN,
         count: 4,
         all: None,
@@ -86,7 +93,7 @@ pub const TEXTS: [Worked; 9] = [
     },
     Worked {
         text: &[A, C, C, T, C, T, G, T, T],
-        slots: &[(0, 0, &[A]), (0, 3, &[C]), (1, 3, &[T])],
+        slots: &[(0, 0, Only(&[A])), (0, 3, Only(&[C])), (1, 3, Only(&[T]))],
         span: ANY_SPAN,
         count: 1,
         all: Some(&[&[1, 2, 4], &[1, 2, 6], &[1, 3, 6], &[1, 5, 8], &[1, 5, 9]]),
@@ -96,7 +103,7 @@ pub const TEXTS: [Worked; 9] = [
     },
     Worked {
         text: &[A, A, B, X, C],
-        slots: &[(0, 0, &[A]), (0, 2, &[B]), (0, 1, &[C])],
+        slots: &[(0, 0, Only(&[A])), (0, 2, Only(&[B])), (0, 1, Only(&[C]))],
         span: (1, 4),
         count: 1,
         all: Some(&[&[2, 3, 5]]),
@@ -106,7 +113,7 @@ pub const TEXTS: [Worked; 9] = [
     },
     Worked {
         text: &[A, B, C, C],
-        slots: &[(0, 0, &[A]), (0, 2, &[B]), (0, 2, &[C])],
+        slots: &[(0, 0, Only(&[A])), (0, 2, Only(&[B])), (0, 2, Only(&[C]))],
         span: (4, 4),
         count: 1,
         all: Some(&[&[1, 2, 4]]),
@@ -127,20 +134,20 @@ pub const TEXTS: [Worked; 9] = [
 ];
 
 /// A sentence end.
-const STOP: u16 = 0;
+pub const STOP: u16 = 0;
 
 /// The two words of a phrase.
 const NEITHER: u16 = 1;
 const NOR: u16 = 2;
 
 /// neither[0,6]nor.
-const NEITHER_NOR: &[Written] = &[(0, 0, &[NEITHER]), (0, 6, &[NOR])];
+const NEITHER_NOR: &[Written] = &[(0, 0, Only(&[NEITHER])), (0, 6, Only(&[NOR]))];
 
 /// a[0,9]b.
-const AB: &[Written] = &[(0, 0, &[A]), (0, 9, &[B])];
+const AB: &[Written] = &[(0, 0, Only(&[A])), (0, 9, Only(&[B]))];
 
-/// A text with sentence ends: all its rows, its front and its back list, and rows that are none.
-const fn cut(
+/// A text with all its rows, its front and its back list, and rows that are none.
+pub const fn listed(
     text: &'static [u16],
     slots: &'static [Written<'static>],
     all: Rows,
@@ -152,11 +159,11 @@ const fn cut(
 }
 
 /// Texts with sentence ends.
-pub const CUT_TEXTS: [Worked; 19] = [
+static CUT_TEXTS: [Worked; 19] = [
     // "neither" at the end of a sentence, "nor" in the next.
-    cut(&[X, NEITHER, STOP, NOR, X], NEITHER_NOR, &[], [&[], &[]], &[&[2, 4]]),
+    listed(&[X, NEITHER, STOP, NOR, X], NEITHER_NOR, &[], [&[], &[]], &[&[2, 4]]),
     // The phrase in each of two sentences, and "nor" in a third.
-    cut(
+    listed(
         &[NEITHER, X, NOR, STOP, NEITHER, NOR, STOP, NOR],
         NEITHER_NOR,
         &[&[1, 3], &[5, 6]],
@@ -164,17 +171,17 @@ pub const CUT_TEXTS: [Worked; 19] = [
         &[&[1, 6], &[1, 8], &[5, 8]],
     ),
     // Right after the first place, right before the last, and both at once.
-    cut(&[A, STOP, X, B], AB, &[], [&[], &[]], &[&[1, 4]]),
-    cut(&[A, X, STOP, B], AB, &[], [&[], &[]], &[&[1, 4]]),
-    cut(&[A, STOP, B], AB, &[], [&[], &[]], &[&[1, 3]]),
+    listed(&[A, STOP, X, B], AB, &[], [&[], &[]], &[&[1, 4]]),
+    listed(&[A, X, STOP, B], AB, &[], [&[], &[]], &[&[1, 4]]),
+    listed(&[A, STOP, B], AB, &[], [&[], &[]], &[&[1, 3]]),
     // Halfway.
-    cut(&[A, X, STOP, X, B], AB, &[], [&[], &[]], &[&[1, 5]]),
+    listed(&[A, X, STOP, X, B], AB, &[], [&[], &[]], &[&[1, 5]]),
     // Just outside the row: before it, after it, and on both sides.
-    cut(&[STOP, A, X, B], AB, &[&[2, 4]], [&[&[2, 4]], &[&[2, 4]]], &[&[1, 4]]),
-    cut(&[A, X, B, STOP], AB, &[&[1, 3]], [&[&[1, 3]], &[&[1, 3]]], &[&[1, 4]]),
-    cut(&[STOP, A, B, STOP], AB, &[&[2, 3]], [&[&[2, 3]], &[&[2, 3]]], &[&[1, 3], &[2, 4], &[1, 4]]),
+    listed(&[STOP, A, X, B], AB, &[&[2, 4]], [&[&[2, 4]], &[&[2, 4]]], &[&[1, 4]]),
+    listed(&[A, X, B, STOP], AB, &[&[1, 3]], [&[&[1, 3]], &[&[1, 3]]], &[&[1, 4]]),
+    listed(&[STOP, A, B, STOP], AB, &[&[2, 3]], [&[&[2, 3]], &[&[2, 3]]], &[&[1, 3], &[2, 4], &[1, 4]]),
     // Several, also next to each other.
-    cut(
+    listed(
         &[A, STOP, STOP, B, STOP, A, B, B, STOP, B],
         AB,
         &[&[6, 7], &[6, 8]],
@@ -182,23 +189,23 @@ pub const CUT_TEXTS: [Worked; 19] = [
         &[&[1, 4], &[1, 7], &[1, 8], &[1, 10], &[6, 10]],
     ),
     // One slot.
-    cut(
+    listed(
         &[STOP, A, STOP, STOP, A, A, STOP],
-        &[(0, 0, &[A])],
+        &[(0, 0, Only(&[A]))],
         &[&[2], &[5], &[6]],
         [&[&[2], &[5], &[6]], &[&[2], &[5], &[6]]],
         &[&[1], &[3], &[4], &[7]],
     ),
     // In the first gap alone, in the second alone, in none.
-    cut(
+    listed(
         &[A, STOP, B, C, A, B, STOP, C, A, B, C],
-        &[(0, 0, &[A]), (0, 2, &[B]), (0, 2, &[C])],
+        &[(0, 0, Only(&[A])), (0, 2, Only(&[B])), (0, 2, Only(&[C]))],
         &[&[9, 10, 11]],
         [&[&[9, 10, 11]], &[&[9, 10, 11]]],
         &[&[1, 3, 4], &[5, 6, 8]],
     ),
     // A start before the sentence must not take the place from the start within it.
-    cut(
+    listed(
         &[A, STOP, A, B, B, STOP, B],
         AB,
         &[&[3, 4], &[3, 5]],
@@ -206,93 +213,28 @@ pub const CUT_TEXTS: [Worked; 19] = [
         &[&[1, 4], &[1, 5], &[1, 7], &[3, 7]],
     ),
     // The same word at both slots.
-    cut(
+    listed(
         &[G, G, STOP, G, G, G],
-        &[(0, 0, &[G]), (0, 3, &[G])],
+        &[(0, 0, Only(&[G])), (0, 3, Only(&[G]))],
         &[&[1, 2], &[4, 5], &[4, 6], &[5, 6]],
         [&[&[1, 2], &[4, 5], &[5, 6]], &[&[1, 2], &[4, 5], &[5, 6]]],
         &[&[1, 4], &[1, 5], &[2, 4], &[2, 5], &[2, 6]],
     ),
     // A span that only a row across the sentence end has, and one that such a row has and one within a sentence.
-    Worked { span: (4, 4), ..cut(&[A, B, STOP, B], AB, &[], [&[], &[]], &[&[1, 2], &[1, 4]]) },
+    Worked { span: (4, 4), ..listed(&[A, B, STOP, B], AB, &[], [&[], &[]], &[&[1, 2], &[1, 4]]) },
     Worked {
         span: (3, 20_000),
-        ..cut(&[A, X, B, STOP, A, B], AB, &[&[1, 3]], [&[&[1, 3]], &[&[1, 3]]], &[&[1, 6], &[5, 6]])
+        ..listed(&[A, X, B, STOP, A, B], AB, &[&[1, 3]], [&[&[1, 3]], &[&[1, 3]]], &[&[1, 6], &[5, 6]])
     },
     // aggcaaga and acctctgtt of the nine texts, with a sentence end instead of c and of g.
-    cut(&[A, G, G, STOP, A, A, G, A], AGA, &[&[5, 7, 8], &[6, 7, 8]], [&[&[5, 7, 8]], &[&[6, 7, 8]]], &[&[1, 3, 5]]),
-    cut(
+    listed(&[A, G, G, STOP, A, A, G, A], AGA, &[&[5, 7, 8], &[6, 7, 8]], [&[&[5, 7, 8]], &[&[6, 7, 8]]], &[&[1, 3, 5]]),
+    listed(
         &[A, C, C, T, C, T, STOP, T, T],
-        &[(0, 0, &[A]), (0, 3, &[C]), (1, 3, &[T])],
+        &[(0, 0, Only(&[A])), (0, 3, Only(&[C])), (1, 3, Only(&[T]))],
         &[&[1, 2, 4], &[1, 2, 6], &[1, 3, 6]],
         [&[&[1, 2, 4]], &[&[1, 3, 6]]],
         &[&[1, 5, 8], &[1, 5, 9]],
     ),
     // Nothing but sentence ends.
-    cut(&[STOP, STOP, STOP], AGA, &[], [&[], &[]], &[&[1, 2, 3], &[2, 2, 2]]),
+    listed(&[STOP, STOP, STOP], AGA, &[], [&[], &[]], &[&[1, 2, 3], &[2, 2, 2]]),
 ];
-
-/// The program's example: its input.
-pub const EXAMPLE_INPUT: &[u8] = b"least most
-1 20000
-low high words
-0 0 7
-0 1 1
-0 1 1
-
-word
-7
-7
-1
-1
-1
-1
-";
-
-/// The program's example: its output.
-pub const EXAMPLE_OUTPUT: &[u8] = b"count tally
-2 6
-row slot front back
-1 1 1 1
-1 2 3 3
-1 3 4 5
-2 1 2 2
-2 2 4 4
-2 3 5 6
-";
-
-/// The program's example with other words and sentence ends: its input.
-pub const CUT_INPUT: &[u8] = b"least most
-1 20000
-low high words
-0 0 7
-0 1 1
-0 1 1
-
-word
-7
-7
-1
-1
-0
-7
-1
-0
-1
-7
-1
-1
-1
-";
-
-/// The program's example with other words and sentence ends: its output.
-pub const CUT_OUTPUT: &[u8] = b"count tally
-2 5
-row slot front back
-1 1 1 2
-1 2 3 3
-1 3 4 4
-2 1 10 10
-2 2 11 12
-2 3 12 13
-";

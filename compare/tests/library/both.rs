@@ -181,13 +181,15 @@ pub fn pattern_of(run: &mut Run, least: u16, most: u16) {
     run.call(Call::PatternOf, 0);
 }
 
-/// Compares adding a slot to a pattern.
+/// Compares adding a slot to a pattern, plain and excluding.
 pub fn with_slot(run: &mut Run, pattern: &Pattern, low: u16, high: u16, words: &[u16]) {
-    let library = ffi::with_slot(pattern, low, high, words);
-    let brute = brute::with_slot(pattern, low, high, words);
-    let case = || format!("with_slot {low} {high} {words:?}\npattern: {pattern:?}");
-    run.agree(&library, &brute, case);
-    run.call(Call::WithSlot, library.number);
+    for excluding in [false, true] {
+        let library = ffi::with_slot(pattern, low, high, excluding, words);
+        let brute = brute::with_slot(pattern, low, high, excluding, words);
+        let case = || format!("with_slot {low} {high} {excluding} {words:?}\npattern: {pattern:?}");
+        run.agree(&library, &brute, case);
+        run.call(Call::WithSlot, library.number);
+    }
 }
 
 /// Compares setting a client's marks to 0, and gives the state after it.

@@ -4,6 +4,7 @@ use compare::brute::Brute;
 use compare::cases::inputs::sevens;
 use compare::cases::random::{any_cursors, any_pattern, any_text, break_pattern, Kind};
 use compare::cases::sentences::cut_every;
+use compare::cases::Words::But;
 use compare::cases::{pattern, ANY_SPAN};
 use compare::layout::{Cursors, Pattern};
 use compare::rng::Rng;
@@ -28,6 +29,9 @@ pub fn run(run: &mut Run) {
         until_refused(run, client, &pattern(ANY_SPAN, &sevens(1, 0, 0)), &[7; 600]);
         // Sentences of two words: each is one occurrence, and the next begins past a 0.
         until_refused(run, client, &pattern(ANY_SPAN, &sevens(2, 0, 2)), &cut_every(3, vec![7; 1_800]));
+        // Any word but 8 before any word: the same occurrences.
+        let excluding = [(0, 0, But(&[8])), (0, 2, But(&[]))];
+        until_refused(run, client, &pattern(ANY_SPAN, &excluding), &cut_every(3, vec![7; 1_800]));
     }
 }
 

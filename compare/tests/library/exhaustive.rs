@@ -4,6 +4,7 @@ use compare::brute::{largest_sets, largest_size, overlap, sorted_by_slot, Brute,
 use compare::cases::lines::small_files;
 use compare::cases::sentences::without_stops;
 use compare::cases::small::{patterns, texts, tuples};
+use compare::cases::Words::{But, Only};
 use compare::cases::ANY_SPAN;
 use compare::layout::Pattern;
 use compare::rng::Rng;
@@ -30,8 +31,10 @@ const SETS: usize = 300;
 /// Compares all small texts, patterns and files.
 pub fn run(run: &mut Run) {
     let mut rng = Rng::new(11);
-    let sets: [&[u16]; 3] = [&[1], &[2], &[1, 2]];
-    let apart: [&[u16]; 3] = [&[1], &[2], &[3, 1]];
+    let sets = [Only(&[1]), Only(&[2]), Only(&[1, 2])];
+    let apart = [Only(&[1]), Only(&[2]), Only(&[3, 1])];
+    let but = [But(&[]), But(&[1]), But(&[1, 2])];
+    let mixed = [Only(&[1]), But(&[1]), But(&[])];
     let wide = [(0, 1), (1, 2), (0, 2)];
     let families = [
         (patterns(1, &sets, &GAPS, &SPANS), texts(&[0, 1, 2], 5)),
@@ -44,6 +47,12 @@ pub fn run(run: &mut Run) {
         (patterns(3, &sets[2..], &wide, &SPANS), texts(&[0, 1], 7)),
         (patterns(4, &sets[..1], &wide, &SPANS[..2]), texts(&[1, 2], 6)),
         (patterns(4, &sets[..1], &wide[2..], &SPANS[..2]), texts(&[0, 1, 2], 6)),
+        (patterns(1, &but, &GAPS, &SPANS), texts(&[0, 1, 2, 3], 4)),
+        (patterns(2, &but, &wide, &SPANS[..2]), texts(&[0, 1, 2, 3], 4)),
+        (patterns(2, &mixed, &GAPS, &SPANS[..2]), texts(&[0, 1, 2], 5)),
+        (patterns(3, &mixed, &wide[2..], &SPANS[..2]), texts(&[0, 1, 2], 5)),
+        (patterns(3, &but[..2], &wide, &SPANS[..1]), texts(&[0, 1, 2], 5)),
+        (patterns(4, &mixed[1..], &wide[2..], &SPANS[..1]), texts(&[0, 1, 2], 5)),
     ];
     for (patterns, texts) in families {
         for pattern in &patterns {

@@ -1,10 +1,10 @@
 //! Files on both sides of each limit, in every order of names, one by one and two in one call.
 
 use compare::brute::pattern_of;
-use compare::cases::files::{damage, input, pattern_file, plain_pattern_file, text_file, SLOT_ORDERS, SPAN_ORDERS};
+use compare::cases::examples::EXAMPLES;
+use compare::cases::files::{damage, input, pattern_file, text_file, usual_pattern_file, SLOT_ORDERS, SPAN_ORDERS};
 use compare::cases::inputs::inputs;
 use compare::cases::random::{any_pattern, any_text, break_pattern, text_with_stops, Kind, STOPS};
-use compare::cases::worked::EXAMPLE_INPUT;
 use compare::rng::Rng;
 
 use crate::file_calls::{lines, pair, read_input, read_pattern, read_text, report, report_cut};
@@ -12,6 +12,24 @@ use crate::run::Run;
 
 /// The lines before the slots' lines.
 const HEAD: &str = "least most\n1 20000\nlow high words\n";
+
+/// Lines of slots, good and wrong in every way.
+const SLOTS: [&str; 14] = [
+    "0 0 7\n",
+    "",
+    "0 0 7",
+    "0 0 0\n",
+    "0 0 7\n3 2 7\n",
+    "0 0 1,2,3,4,5,6,7,8,9\n",
+    "0 0 \n",
+    "0 0 !8\n",
+    "0 0 !\n0 1 !\n",
+    "0 0 !",
+    "0 0 !0\n",
+    "0 0 !\n3 2 !\n",
+    "0 0 !1,2,3,4,5,6,7,8,9\n",
+    "0 0 !!\n",
+];
 
 /// What the patterns in files are like.
 const KIND: Kind = Kind { slots: (1, 16), highest_word: 9, most_words: 8, widest_gap: 5 };
@@ -31,7 +49,7 @@ pub fn run(run: &mut Run) {
         lines(run, &input);
     }
     run.input();
-    report_cut(run, EXAMPLE_INPUT);
+    EXAMPLES.iter().for_each(|(input, _)| report_cut(run, input));
     report_cut(run, b"");
 }
 
@@ -103,7 +121,15 @@ fn bytes_at_limit(run: &mut Run) {
 /// Compares pattern files with numbers of slots and words on both sides of the limits.
 fn slots_at_limit(run: &mut Run) {
     for slots in (0..=20).chain([255, 256, 257, 1_000]) {
-        for (line, last) in [("0 0 7\n", ""), ("0 0 7\n", "0 0 07\n"), ("0 0 0\n", ""), ("0 64 7\n", "x")] {
+        for (line, last) in [
+            ("0 0 7\n", ""),
+            ("0 0 7\n", "0 0 07\n"),
+            ("0 0 0\n", ""),
+            ("0 64 7\n", "x"),
+            ("0 0 !\n", ""),
+            ("0 0 !8\n", "0 0 !!\n"),
+            ("0 0 !0\n", ""),
+        ] {
             let file = format!("{HEAD}{}{last}", line.repeat(slots)).into_bytes();
             run.input();
             read_pattern(run, &file);
@@ -115,10 +141,12 @@ fn slots_at_limit(run: &mut Run) {
         let joined = vec!["7"; words].join(",");
         for (low, high) in [("0", "0"), ("0", "1"), ("1", "0"), ("64", "64"), ("0", "065")] {
             for field in [joined.clone(), format!("{joined},0"), format!("0,{joined}"), format!("{joined},")] {
-                let file = format!("{HEAD}0 0 7\n{low} {high} {field}\n").into_bytes();
-                run.input();
-                read_pattern(run, &file);
-                pair(run, &file, b"word\n7\n7\n");
+                for mark in ["", "!"] {
+                    let file = format!("{HEAD}0 0 7\n{low} {high} {mark}{field}\n").into_bytes();
+                    run.input();
+                    read_pattern(run, &file);
+                    pair(run, &file, b"word\n7\n7\n8\n");
+                }
             }
         }
     }
@@ -144,15 +172,11 @@ fn words_at_limit(run: &mut Run) {
 
 /// Compares two files in one call, each of them failing in every way.
 fn failures_of_both(run: &mut Run) {
-    let mut patterns: Vec<Vec<u8>> =
-        ["0 0 7\n", "", "0 0 7", "0 0 0\n", "0 0 7\n3 2 7\n", "0 0 1,2,3,4,5,6,7,8,9\n", "0 0 \n"]
-            .iter()
-            .map(|slots| format!("{HEAD}{slots}").into_bytes())
-            .collect();
+    let mut patterns: Vec<Vec<u8>> = SLOTS.iter().map(|slots| format!("{HEAD}{slots}").into_bytes()).collect();
     patterns.push(b"least most\n0 5\nlow high words\n0 0 7\n".to_vec());
     patterns.push(b"least most\n0 5\nlow high words\n0 0 0\n".to_vec());
     patterns.push(b"least most\n1 20000\nwords low\n".to_vec());
-    patterns.push(plain_pattern_file(&pattern_of(1, 5)));
+    patterns.push(usual_pattern_file(&pattern_of(1, 5)));
     patterns.push(vec![b'7'; 60_000]);
     patterns.push(vec![b'7'; 60_001]);
     let mut texts: Vec<Vec<u8>> = ["", "word\n", "word", "word\n7\n", "words\n7\n", "word\n07\n", "word\n7"]
@@ -175,7 +199,7 @@ fn cut_texts(run: &mut Run) {
     let mut rng = Rng::new(46);
     let kind = Kind { slots: (1, 4), highest_word: 2, most_words: 2, widest_gap: 4 };
     for round in 0..1_000 {
-        let file = plain_pattern_file(&any_pattern(&mut rng, &kind));
+        let file = usual_pattern_file(&any_pattern(&mut rng, &kind));
         let words = rng.within(0, 60);
         let text = text_file(&text_with_stops(&mut rng, words, 2, STOPS[round % STOPS.len()]));
         run.input();

@@ -6,7 +6,8 @@ use compare::cases::lines::one_long_line;
 use compare::cases::random::add_garbage;
 use compare::cases::sentences::{cut_at, cut_every, joined};
 use compare::cases::tallies::{equal_sentences, one_below_power, power, sixteen_words, thresholds};
-use compare::cases::{pattern, ANY_SPAN};
+use compare::cases::Words::{But, Only};
+use compare::cases::{alike, pattern, Words, ANY_SPAN};
 use compare::layout::{Cursors, Pattern};
 use compare::rng::Rng;
 
@@ -16,6 +17,9 @@ use crate::run::Run;
 
 /// Numbers of slots or words on both sides of their limits, and some that look small when cut to fewer bits.
 const COUNTS: [usize; 14] = [0, 1, 2, 8, 9, 15, 16, 17, 256, 65_535, 65_537, (1 << 32) + 1, 1 << 63, usize::MAX];
+
+/// The words of slots that take the 7, plain and excluding.
+const TAKING_SEVEN: [Words; 2] = [Only(&[7]), But(&[8])];
 
 /// A text with occurrences of the patterns below.
 const TEXT: [u16; 9] = [7, 7, 0, 7, 8, 7, 7, 9, 7];
@@ -46,29 +50,34 @@ fn compare(run: &mut Run, pattern: &Pattern, text: &[u16]) {
 /// Patterns on both sides of each of their limits.
 fn patterns() -> Vec<Pattern> {
     let mut found = Vec::new();
-    for count in COUNTS {
-        let mut stated = pattern(ANY_SPAN, &sevens(16, 0, 1));
-        stated.count = count;
-        found.push(stated);
-    }
-    for slots in [1, 3, 16] {
-        let base = pattern(ANY_SPAN, &sevens(slots, 0, 1));
-        for at in [0, slots / 2, slots - 1] {
-            found.extend(with_words(&base, at));
-            found.extend(with_gaps(&base, at));
+    for words in TAKING_SEVEN {
+        for count in COUNTS {
+            let mut stated = pattern(ANY_SPAN, &alike(words, 16, 0, 1));
+            stated.count = count;
+            found.push(stated);
         }
-        found.extend(with_spans(&base));
+        for slots in [1, 3, 16] {
+            let base = pattern(ANY_SPAN, &alike(words, slots, 0, 1));
+            for at in [0, slots / 2, slots - 1] {
+                found.extend(with_words(&base, at, Only(&[7, 8, 9, 7, 1, 2, 3, 65_535])));
+                found.extend(with_words(&base, at, But(&[8, 9, 8, 1, 2, 3, 4, 65_535])));
+                found.extend(with_gaps(&base, at));
+            }
+            found.extend(with_spans(&base));
+        }
     }
     found
 }
 
-/// The pattern with every interesting number of words in one slot, and with the word 0 at each of its places.
-fn with_words(base: &Pattern, at: usize) -> Vec<Pattern> {
+/// The pattern with every interesting number of these eight words in one slot, and with the word 0 at each of its
+/// places.
+fn with_words(base: &Pattern, at: usize, words: Words) -> Vec<Pattern> {
+    let (excluding, words) = words.parts();
     let mut found = Vec::new();
     for count in COUNTS {
         let mut changed = *base;
-        changed.slots[at].words = [7, 8, 9, 7, 1, 2, 3, 65_535];
-        changed.slots[at].count = count;
+        changed.slots[at].words.copy_from_slice(words);
+        (changed.slots[at].count, changed.slots[at].excluding) = (count, excluding);
         found.push(changed);
         for zero in 0..8 {
             let mut holed = changed;
@@ -107,8 +116,9 @@ fn new_patterns(run: &mut Run) {
             pattern_of(run, least, most);
         }
     }
-    for count in [0, 1, 7, 15, 16, 17, 65_536, usize::MAX] {
-        let mut pattern = pattern(ANY_SPAN, &sevens(16, 0, 1));
+    let counts = [0, 1, 7, 15, 16, 17, 65_536, usize::MAX];
+    for (count, words) in counts.into_iter().flat_map(|count| TAKING_SEVEN.map(|words| (count, words))) {
+        let mut pattern = pattern(ANY_SPAN, &alike(words, 16, 0, 1));
         pattern.count = count;
         for words in 0..=10 {
             let zeros_last = [5, 5, 5, 5, 5, 5, 5, 0, 0, 0];
@@ -123,24 +133,26 @@ fn new_patterns(run: &mut Run) {
 
 /// Compares texts of lengths on both sides of the limit, and their check by length alone.
 fn texts(run: &mut Run) {
-    let accepted = pattern(ANY_SPAN, &sevens(3, 0, 1));
+    let [accepted, excluding] = TAKING_SEVEN.map(|words| pattern(ANY_SPAN, &alike(words, 3, 0, 1)));
     for length in [0, 1, 19_999, 20_000, 20_001, 65_535, 65_536, 65_537, 85_536] {
         let mut text = vec![0; length];
         text.iter_mut().step_by(997).for_each(|word| *word = 7);
         text.iter_mut().skip(1).step_by(499).for_each(|word| *word = 7);
         text.iter_mut().rev().take(4).for_each(|word| *word = 7);
         compare(run, &accepted, &text);
+        compare(run, &excluding, &text);
     }
     for length in [0, 20_000, 20_001, 65_536, 1 << 32, (1 << 32) + 5, 1 << 63, usize::MAX] {
         run.input();
         check(run, &accepted, length);
+        check(run, &excluding, length);
     }
 }
 
 /// Compares rows and marks of every length, for patterns of every number of slots.
 fn row_lengths(run: &mut Run) {
-    for slots in 1..=16 {
-        let pattern = pattern(ANY_SPAN, &sevens(slots, 0, 0));
+    for (slots, words) in (1..=16).flat_map(|slots| TAKING_SEVEN.map(|words| (slots, words))) {
+        let pattern = pattern(ANY_SPAN, &alike(words, slots, 0, 0));
         let text = [7; 16];
         let mut both = Both::new(run, Brute::enumerated(&pattern, &text));
         for length in 0..=20 {
@@ -201,14 +213,15 @@ fn cut_sevens(run: &mut Run, pattern: &Pattern, words: usize, others: usize) {
 /// Compares clients and numbers served on both sides of their limits.
 fn clients(run: &mut Run) {
     let accepted = pattern(ANY_SPAN, &sevens(2, 0, 1));
-    let nowhere = pattern(ANY_SPAN, &[(0, 0, &[5])]);
+    let any = pattern(ANY_SPAN, &alike(But(&[]), 2, 0, 1));
+    let nowhere = pattern(ANY_SPAN, &[(0, 0, Only(&[5]))]);
     for client in [0, 1, 2, 3, 4, 5, 256, 65_537, (1 << 32) + 1, 1 << 63, usize::MAX] {
         for served in [0, 1, 498, 499, 500, 501, 65_536, 1 << 32, 1 << 63, usize::MAX] {
             let mut cursors = Cursors { served, ..Cursors::default() };
             for (at, marks) in cursors.marks.iter_mut().enumerate() {
                 marks.places.fill(at as u16);
             }
-            for pattern in [accepted, nowhere, brute::pattern_of(1, 1)] {
+            for pattern in [accepted, any, nowhere, brute::pattern_of(1, 1)] {
                 Both::new(run, Brute::enumerated(&pattern, &TEXT)).next(&cursors, client);
             }
             run.input();

@@ -4,18 +4,15 @@ use compare::brute::{Brute, Row};
 use compare::cases::inputs::sevens;
 use compare::cases::random::{any_marks, any_pattern, text_with_stops, Kind};
 use compare::cases::sentences::{cut_at, cut_every, sentences};
-use compare::cases::{pattern, ANY_SPAN};
-use compare::ffi;
+use compare::cases::Words::{But, Only};
+use compare::cases::{alike, pattern, Words, Written, ANY_SPAN};
 use compare::layout::{Answer, Cursors, Pattern};
 use compare::rng::Rng;
 
+use crate::alone::LISTS;
 use crate::both::Both;
-use crate::call::Call;
 use crate::lent::Lent;
 use crate::run::Run;
-
-/// A list call of the library.
-type ListCall = fn(&Pattern, &[u16], &mut [u16]) -> Answer;
 
 /// The longest text.
 const WORDS: usize = 20_000;
@@ -29,6 +26,13 @@ const KINDS: [Kind; 3] = [
 
 /// What the patterns are like that occur in short sentences of two words.
 const NARROW: Kind = Kind { slots: (2, 4), highest_word: 2, most_words: 2, widest_gap: 7 };
+
+/// Patterns with excluding slots, for texts of four words: as .. as, any words between two, and words but for eight.
+const EXCLUDING: [&[Written]; 3] = [
+    &[(0, 0, Only(&[1])), (0, 0, But(&[2, 3])), (0, 0, Only(&[1]))],
+    &[(0, 0, Only(&[1])), (0, 3, But(&[])), (1, 2, But(&[4])), (0, 63, Only(&[2]))],
+    &[(0, 0, But(&[1, 2, 3, 5, 6, 7, 8, 9])), (0, 20, But(&[4, 4, 1])), (0, 1, But(&[65_535]))],
+];
 
 /// Compares long texts.
 pub fn run(run: &mut Run) {
@@ -49,6 +53,12 @@ pub fn run(run: &mut Run) {
     for span in [(20_000, 20_000), (961, 20_000), (1, 16)] {
         let pattern = pattern(span, &sevens(16, 0, 63));
         compare(run, &mut rng, &pattern, &[7; 1_000]);
+    }
+    for slots in EXCLUDING {
+        for stops in [Some(20), None] {
+            let text = text_with_stops(&mut rng, WORDS, 4, stops);
+            compare(run, &mut rng, &pattern(ANY_SPAN, slots), &text);
+        }
     }
     same_words(run, &[7; WORDS]);
     for (at, text) in cut(&[7; WORDS]).iter().enumerate() {
@@ -90,17 +100,19 @@ fn picked<E: std::fmt::Debug>(rng: &mut Rng, list: Result<&[Row], E>) -> Vec<Row
     (0..some).map(|_| list[rng.within(0, list.len() - 1)].clone()).collect()
 }
 
-/// Compares the lists of some patterns of sevens in sentences of sevens.
+/// Compares the lists of some patterns of slots that take the 7, plain and excluding, in sentences of sevens.
 fn same_words(run: &mut Run, text: &[u16]) {
     for (slots, low, high) in [(1, 0, 0), (2, 0, 63), (3, 5, 9), (16, 0, 0), (16, 0, 63), (16, 63, 63)] {
-        same_word(run, text, slots, low, high);
+        for words in [Only(&[7]), But(&[]), But(&[1, 2, 3, 4, 5, 6, 8, 9])] {
+            same_word(run, text, words, slots, low, high);
+        }
     }
 }
 
-/// Compares the lists of slots of sevens in sentences of sevens: a sentence's row k has its places low + 1 apart, from
-/// its place k on.
-fn same_word(run: &mut Run, text: &[u16], slots: usize, low: u16, high: u16) {
-    let pattern = pattern(ANY_SPAN, &sevens(slots, low, high));
+/// Compares the lists of slots that take the 7 in sentences of sevens: a sentence's row k has its places low + 1 apart,
+/// from its place k on.
+fn same_word(run: &mut Run, text: &[u16], words: Words, slots: usize, low: u16, high: u16) {
+    let pattern = pattern(ANY_SPAN, &alike(words, slots, low, high));
     let reach = (slots as u16 - 1) * (low + 1);
     let firsts =
         |(before, sentence): (u16, &[u16])| before + 1..=before + (sentence.len() as u16).saturating_sub(reach);
@@ -108,14 +120,14 @@ fn same_word(run: &mut Run, text: &[u16], slots: usize, low: u16, high: u16) {
     let rows: Row = sentences(text).into_iter().flat_map(firsts).flat_map(row).collect();
     let count = rows.len() / slots;
     run.input();
-    for (call, list) in [(Call::Leftmost, ffi::leftmost as ListCall), (Call::Rightmost, ffi::rightmost)] {
+    for (call, list) in &LISTS[..2] {
         let (mut lent, mut expected) = (Lent::places(rows.len() + 9), Lent::places(rows.len() + 9));
         expected.part()[..rows.len()].copy_from_slice(&rows);
         let library = list(&pattern, text, lent.part());
         let answer = Answer { number: 0, place: 0, value: count as u64 };
-        let case = || format!("{call}: {slots} sevens, gaps {low} to {high}\ntext: {text:?}");
+        let case = || format!("{call}\npattern: {pattern:?}\ntext: {text:?}");
         run.agree(&library, &answer, case);
         run.agree(&lent, &expected, case);
-        run.call(call, library.number);
+        run.call(*call, library.number);
     }
 }

@@ -1,9 +1,11 @@
 //! Compares the library with the brute force, and counts what was compared.
 
+mod alone;
 mod both;
 mod call;
 mod damage;
 mod desk;
+mod excluding;
 mod exhaustive;
 mod file_calls;
 mod files;
@@ -27,10 +29,11 @@ use run::Run;
 type Group = (&'static str, fn(&mut Run));
 
 /// All groups.
-const GROUPS: [Group; 11] = [
+const GROUPS: [Group; 12] = [
     ("worked", worked::run),
     ("exhaustive", exhaustive::run),
     ("sentences", sentences::run),
+    ("excluding", excluding::run),
     ("random", random::run),
     ("limits", limits::run),
     ("order", order::run),

@@ -1,8 +1,9 @@
-//! Several failures at once, so that the order of the tests is seen.
+//! Several failures at once, in plain and in excluding slots, so that the order of the tests is seen.
 
 use compare::brute::Brute;
 use compare::cases::inputs::sevens;
 use compare::cases::small::tuples;
+use compare::cases::Words::But;
 use compare::cases::{pattern, ANY_SPAN};
 use compare::layout::{Cursors, Pattern};
 
@@ -19,49 +20,58 @@ const TEXT: u32 = 32;
 const PLACES: u32 = 64;
 const SERVED: u32 = 128;
 
-/// Compares every set of failures, with those of slots at every slot.
+/// Compares every set of failures, with those of slots at every slot, the slots plain, excluding or mixed.
 pub fn run(run: &mut Run) {
-    let (short, long) = ([7, 7, 7, 7, 0, 7, 7, 7], [7; 20_001]);
-    for failures in 0..2 * SERVED {
-        for at in 0..27 {
-            let pattern = broken(failures, [at / 9, at / 3 % 3, at % 3]);
-            let text = if failures & TEXT == 0 { &short[..] } else { &long };
-            let wrong = failures & PLACES != 0;
-            let marks = if wrong { &[0, 0][..] } else { &[0, 0, 0] };
-            let client = if wrong { 5 } else { 1 };
-            let served = if failures & SERVED == 0 { 0 } else { 500 };
-            let cursors = Cursors { served, ..Cursors::default() };
-            let mut both = Both::new(run, Brute::enumerated(&pattern, text));
-            both.every_call(marks, &cursors, client);
+    for marked in [0b000, 0b111, 0b101] {
+        for failures in 0..2 * SERVED {
+            for at in 0..27 {
+                every_call(run, &broken(marked, failures, [at / 9, at / 3 % 3, at % 3]), failures);
+            }
         }
     }
     sets_of_three(run);
     two_of_sixteen(run);
 }
 
-/// Compares the tests of patterns of three slots, each slot with every set of failures.
+/// Compares every call on a pattern with these failures, with those of the text, the marks and the cursors.
+fn every_call(run: &mut Run, pattern: &Pattern, failures: u32) {
+    let (short, long) = ([7, 7, 7, 7, 0, 7, 7, 7], [7; 20_001]);
+    let text = if failures & TEXT == 0 { &short[..] } else { &long };
+    let wrong = failures & PLACES != 0;
+    let marks = if wrong { &[0, 0][..] } else { &[0, 0, 0] };
+    let client = if wrong { 5 } else { 1 };
+    let served = if failures & SERVED == 0 { 0 } else { 500 };
+    let cursors = Cursors { served, ..Cursors::default() };
+    let mut both = Both::new(run, Brute::enumerated(pattern, text));
+    both.every_call(marks, &cursors, client);
+}
+
+/// Compares the tests of patterns of three slots, each slot plain or excluding and with every set of failures.
 fn sets_of_three(run: &mut Run) {
     let sets: Vec<u16> = (0..8).collect();
     for sets in tuples(&sets, 3) {
         for others in [0, SLOTS, SPAN, SLOTS | SPAN] {
-            for zeroth in [0, 1] {
-                let mut pattern = broken(others, [0, 0, zeroth]);
-                for (at, set) in sets.iter().enumerate() {
-                    break_slot(&mut pattern, at, u32::from(*set) * WORDS);
+            for marked in 0..8 {
+                for zeroth in [0, 1] {
+                    let mut pattern = broken(marked, others, [0, 0, zeroth]);
+                    for (at, set) in sets.iter().enumerate() {
+                        break_slot(&mut pattern, at, u32::from(*set) * WORDS);
+                    }
+                    compare(run, &pattern);
                 }
-                compare(run, &pattern);
             }
         }
     }
 }
 
-/// Compares the tests of patterns of sixteen slots, all or half of them stated, and one or two failing in each way.
+/// Compares the tests of patterns of sixteen slots, all or half of them stated, all or half of them plain, and one or
+/// two failing in each way.
 fn two_of_sixteen(run: &mut Run) {
     let failures = [WORDS, ZERO, GAP];
     for at in 0..16 * 16 {
         for both in 0..9 {
-            for stated in [16, 8] {
-                let mut pattern = pattern(ANY_SPAN, &sevens(16, 0, 1));
+            for (stated, marked) in [(16, 0), (8, 0), (16, 0b0101_0011_0101_0011), (8, 0b1100_1010_1100_1010)] {
+                let mut pattern = marked_sevens(16, marked);
                 break_slot(&mut pattern, at / 16, failures[both / 3]);
                 break_slot(&mut pattern, at % 16, failures[both % 3]);
                 pattern.count = stated;
@@ -79,9 +89,19 @@ fn compare(run: &mut Run, pattern: &Pattern) {
     check(run, pattern, 20_001);
 }
 
-/// A pattern of three slots with these failures: too few or many words, the word 0, and a wrong gap at these slots.
-fn broken(failures: u32, [words, zero, gap]: [usize; 3]) -> Pattern {
-    let mut broken = pattern(ANY_SPAN, &sevens(3, 0, 1));
+/// So many slots that take the word 7, those whose bit is 1 by excluding the word 8.
+fn marked_sevens(slots: usize, marked: u32) -> Pattern {
+    let mut written = sevens(slots, 0, 1);
+    for (_, slot) in written.iter_mut().enumerate().filter(|(at, _)| marked >> at & 1 == 1) {
+        slot.2 = But(&[8]);
+    }
+    pattern(ANY_SPAN, &written)
+}
+
+/// A pattern of three slots, some excluding, with these failures: too few or many words, the word 0, and a wrong gap at
+/// these slots.
+fn broken(marked: u32, failures: u32, [words, zero, gap]: [usize; 3]) -> Pattern {
+    let mut broken = marked_sevens(3, marked);
     break_slot(&mut broken, words, failures & WORDS);
     break_slot(&mut broken, zero, failures & ZERO);
     break_slot(&mut broken, gap, failures & GAP);
@@ -94,11 +114,12 @@ fn broken(failures: u32, [words, zero, gap]: [usize; 3]) -> Pattern {
     broken
 }
 
-/// Gives a slot these failures: too few or many words, the word 0, and a wrong gap.
+/// Gives a slot these failures: too few or many words, the word 0, and a wrong gap. No words are too few for a plain slot
+/// alone, so an excluding one gets too many.
 fn break_slot(pattern: &mut Pattern, at: usize, failures: u32) {
     let slot = &mut pattern.slots[at];
     if failures & WORDS != 0 {
-        slot.count = if at == 1 { 0 } else { 9 };
+        slot.count = if at == 1 && !slot.excluding { 0 } else { 9 };
     }
     if failures & ZERO != 0 {
         slot.words[0] = 0;

@@ -91,7 +91,7 @@ fn compare_by(mut both: Both<impl Searcher>, rng: &mut Rng) {
     both.every_call(&marks, &cursors, client);
 }
 
-/// Some rows that are occurrences but for sentence ends, if the text has any of those.
+/// Some rows that are occurrences but for the 0, if the text has any.
 fn across_stops(both: &Both<impl Searcher>) -> Vec<Row> {
     let (pattern, text) = (both.brute.pattern, both.brute.text);
     if both.brute.searcher().is_err() || !text.contains(&0) {

@@ -4,20 +4,15 @@ use compare::brute::{Brute, Row, Searcher};
 use compare::cases::inputs::sevens;
 use compare::cases::random::{any_pattern, any_text, text_with_stops, Kind, STOPS};
 use compare::cases::sentences::{cut_at, joined, without_stops};
+use compare::cases::Words::{But, Only};
 use compare::cases::{pattern, ANY_SPAN};
-use compare::ffi;
 use compare::layout::{Answer, Cursors, Pattern};
 use compare::rng::Rng;
 
+use crate::alone::{listed, LISTS, NUMBERS};
 use crate::both::Both;
 use crate::call::Call;
 use crate::run::Run;
-
-/// A call of the library that gives a number.
-type Number = fn(&Pattern, &[u16]) -> Answer;
-
-/// A list call of the library.
-type ListCall = fn(&Pattern, &[u16], &mut [u16]) -> Answer;
 
 /// What the patterns are like: short, of medium reach, and with more slots.
 const KINDS: [Kind; 3] = [
@@ -62,12 +57,16 @@ pub fn run(run: &mut Run) {
     }
 }
 
-/// Compares texts with a 0 at every place, and at every two places, for rows that are narrow, wide and of many slots.
+/// Compares texts with a 0 at every place, and at every two places, for rows that are narrow, wide, of many slots, and of
+/// excluding slots.
 fn one_or_two(run: &mut Run) {
-    let wide = pattern(ANY_SPAN, &[(0, 0, &[1]), (0, 63, &[2]), (63, 63, &[3])]);
+    let wide = pattern(ANY_SPAN, &[(0, 0, Only(&[1])), (0, 63, Only(&[2])), (63, 63, Only(&[3]))]);
     at_every_place(run, &wide, &[&[9, 1], &[9; 63][..], &[2], &[9; 63], &[3, 9]].concat());
-    let steps = pattern(ANY_SPAN, &[(0, 0, &[1]), (3, 3, &[2]), (0, 4, &[1, 2]), (2, 5, &[3])]);
+    let steps = pattern(ANY_SPAN, &[(0, 0, Only(&[1])), (3, 3, Only(&[2])), (0, 4, Only(&[1, 2])), (2, 5, Only(&[3]))]);
     at_every_place(run, &steps, &[9, 1, 9, 9, 9, 2, 9, 1, 2, 9, 9, 3, 3, 9]);
+    let but = pattern(ANY_SPAN, &[(0, 0, But(&[9])), (3, 3, But(&[1, 3])), (0, 4, But(&[])), (2, 5, Only(&[3]))]);
+    at_every_place(run, &but, &[9, 1, 9, 9, 9, 2, 9, 1, 2, 9, 9, 3, 3, 9]);
+    at_every_place(run, &pattern(ANY_SPAN, &[(0, 0, But(&[]))]), &[1, 2, 3, 9, 65_535]);
     at_every_place(run, &pattern(ANY_SPAN, &sevens(1, 0, 0)), &[7; 9]);
     at_every_place(run, &pattern((4, 6), &sevens(3, 0, 3)), &[7; 12]);
     at_every_place(run, &pattern(ANY_SPAN, &sevens(16, 0, 1)), &[7; 19]);
@@ -92,7 +91,7 @@ fn rows(pattern: &Pattern, text: &[u16]) -> Vec<Row> {
     all.iter().step_by(all.len() / ROWS + 1).cloned().collect()
 }
 
-/// Compares every call on a text, and these rows, of which some are occurrences but for a sentence end, also as marks.
+/// Compares every call on a text, and these rows, of which some are occurrences but for a 0, also as marks.
 fn across(run: &mut Run, pattern: &Pattern, text: &[u16], rows: &[Row]) {
     let mut both = Both::new(run, Brute::enumerated(pattern, text));
     for row in rows {
@@ -126,26 +125,10 @@ fn two_texts(run: &mut Run, pattern: &Pattern, text: &[u16], other: &[u16]) {
     }
 }
 
-/// The calls that give a number.
-const NUMBERS: [(Call, Number); 2] = [(Call::Support, ffi::support), (Call::Tally, ffi::tally)];
-
-/// The calls that give a list.
-const LISTS: [(Call, ListCall); 3] =
-    [(Call::Leftmost, ffi::leftmost), (Call::Rightmost, ffi::rightmost), (Call::All, ffi::all)];
-
 /// The answer that adds up two; where one is refused, or the sum passes 64 bits, it is refused with 9.
 fn added(one: Answer, other: Answer) -> Answer {
     match one.value.checked_add(other.value) {
         Some(value) if one.number == 0 && other.number == 0 => Answer { number: 0, place: 0, value },
         _ => Answer { number: 9, place: 0, value: 0 },
     }
-}
-
-/// The entries that a list call writes, with so many lent, which is room enough.
-fn listed(list: ListCall, pattern: &Pattern, text: &[u16], room: usize) -> Vec<u16> {
-    let mut entries = vec![0; room];
-    let answer = list(pattern, text, &mut entries);
-    assert_eq!(answer.number, 0);
-    entries.truncate(answer.value as usize * pattern.count);
-    entries
 }

@@ -1,13 +1,14 @@
-//! Names and numbers spelled rightly and wrongly, in every field of the files, and every byte in a line.
+//! Names, numbers and marks spelled rightly and wrongly in every field of the files, all small fields of words, and every
+//! byte in a line.
 
-use compare::cases::files::input;
+use compare::cases::files::{input, small_fields};
 use compare::cases::lines::every_byte;
 
 use crate::file_calls::{lines, pair, read_pattern, read_text, report};
 use crate::run::Run;
 
 /// Numbers as they may and may not be spelled, some that look right when cut to fewer bits.
-const NUMBERS: [&str; 40] = [
+const NUMBERS: [&str; 44] = [
     "0",
     "1",
     "7",
@@ -48,14 +49,67 @@ const NUMBERS: [&str; 40] = [
     " 7",
     "\u{0667}",
     "7,7",
+    "!",
+    "!7",
+    "7!",
+    "!!",
 ];
 
 /// Lists of words as they may and may not be spelled.
 const WORDS: [&str; 14] =
     ["7,8", "8,7,7", "7,0", "0,7", "7,", ",7", ",", ",,", "7,,8", "7, 8", "7 8", "7;8", "7,08", "7,65536"];
 
+/// Lists of excluded words as they may and may not be spelled.
+const EXCLUDED: [&str; 45] = [
+    "!7,8",
+    "!8,7,7",
+    "!1,9",
+    "!65535",
+    "!1,2,3,4,5,6,8,9",
+    "!1,2,3,4,5,6,7,8",
+    "!1,2,3,4,5,6,7,8,9",
+    "!7,7,7,7,7,7,7,7,7",
+    "!0,0,0,0,0,0,0,0,0",
+    "!7,0",
+    "!0,7",
+    "!,",
+    "!,,",
+    "!,1",
+    "!1,",
+    "!7,,8",
+    "!7;8",
+    "!7,08",
+    "!7,65536",
+    "!!7",
+    "!!!",
+    "!7!",
+    "!7!8",
+    "!7,8!",
+    "!7,!8",
+    "1,!2",
+    "1,!",
+    "1!,2",
+    "1!2",
+    "12!",
+    "1,2!",
+    ",!",
+    ",!1",
+    "!\t7",
+    "!\r",
+    "\r!",
+    "! ",
+    " !",
+    "! 7",
+    "7 !",
+    "!7 ",
+    "!-7",
+    "\u{A1}7",
+    "\u{FF01}7",
+    "\u{21}\u{301}7",
+];
+
 /// Lines of names as they may and may not be spelled.
-const NAMES: [&str; 34] = [
+const NAMES: [&str; 44] = [
     "least most",
     "most least",
     "least",
@@ -90,9 +144,19 @@ const NAMES: [&str; 34] = [
     "word ",
     " word",
     "wor",
+    "!least most",
+    "least !most",
+    "least most!",
+    "!",
+    "! low high words",
+    "low high !words",
+    "low high words!",
+    "!low high words",
+    "!word",
+    "word!",
 ];
 
-/// Compares every spelling in every field, and every byte in a line.
+/// Compares every spelling in every field, all small fields of words, and every byte in a line.
 pub fn run(run: &mut Run) {
     for number in NUMBERS {
         pattern(run, &format!("least most\n{number} 20000\nlow high words\n0 0 7\n"));
@@ -100,12 +164,17 @@ pub fn run(run: &mut Run) {
         pattern(run, &format!("least most\n1 9\nlow high words\n0 0 7\n{number} 63 7\n"));
         pattern(run, &format!("least most\n1 9\nlow words high\n0 7 0\n0 7 {number}\n"));
         words(run, number);
+        words(run, &format!("!{number}"));
+        words(run, &format!("!7,{number}"));
         text(run, &format!("word\n{number}\n"));
         text(run, &format!("word\n7\n{number}\n7\n"));
         text(run, &format!("word\n7\n{number}"));
     }
-    for list in WORDS {
+    for list in WORDS.iter().chain(&EXCLUDED) {
         words(run, list);
+    }
+    for field in small_fields() {
+        words(run, &field);
     }
     for names in NAMES {
         pattern(run, &format!("{names}\n1 9\nlow high words\n0 0 7\n"));

@@ -1,10 +1,11 @@
-//! The scope's nine texts, the program's example, and the same with sentence ends, as they are stated and as the
-//! brute force finds them.
+//! The scope's nine texts, those with sentence ends, those for excluding slots, and the program's examples, as they are
+//! stated and as the brute force finds them.
 
 use compare::brute::Brute;
-use compare::cases::files::{plain_pattern_file, text_file};
+use compare::cases::examples::EXAMPLES;
+use compare::cases::files::{text_file, usual_pattern_file};
 use compare::cases::pattern;
-use compare::cases::worked::{Rows, Worked, CUT_INPUT, CUT_OUTPUT, CUT_TEXTS, EXAMPLE_INPUT, EXAMPLE_OUTPUT, TEXTS};
+use compare::cases::worked::{worked_texts, Rows, Worked};
 use compare::ffi;
 use compare::layout::{Answer, Cursors, Found, LineEnds, Pattern};
 
@@ -12,9 +13,9 @@ use crate::both::Both;
 use crate::file_calls;
 use crate::run::Run;
 
-/// Compares the nine texts, those with sentence ends, and the examples.
+/// Compares the texts and the examples.
 pub fn run(run: &mut Run) {
-    for case in TEXTS.iter().chain(&CUT_TEXTS) {
+    for case in worked_texts() {
         let pattern = pattern(case.span, case.slots);
         stated(case, &pattern);
         let mut both = Both::new(run, Brute::enumerated(&pattern, case.text));
@@ -22,12 +23,12 @@ pub fn run(run: &mut Run) {
             both.row(row);
         }
         both.every_call(&vec![0; case.slots.len()], &Cursors::default(), 1);
-        let (file, text) = (plain_pattern_file(&pattern), text_file(case.text));
+        let (file, text) = (usual_pattern_file(&pattern), text_file(case.text));
         stated_in_files(case, &pattern, &file, &text);
         file_calls::pair(run, &file, &text);
         file_calls::lines(run, &text);
     }
-    for (input, output) in [(EXAMPLE_INPUT, EXAMPLE_OUTPUT), (CUT_INPUT, CUT_OUTPUT)] {
+    for (input, output) in EXAMPLES {
         let mut out = [0; 200];
         let written = ffi::report(input, &mut out);
         assert_eq!(&out[..written], output);

@@ -20,10 +20,16 @@ pub extern "C" fn bedbloomer_pattern_of(least: u16, most: u16) -> Pattern
 
 // The pattern with one slot more.
 #[no_mangle]
-pub extern "C" fn bedbloomer_with_slot(pattern: Pattern, low: u16, high: u16, words: &[u16]) -> Made
-    ensures { λ r. ⌜ r ≡ ofExtended (extended pattern low high (now (words .entry))) ⌝ }
+pub extern "C" fn bedbloomer_with_slot(
+    pattern: Pattern,
+    low: u16,
+    high: u16,
+    excluding: bool,
+    words: &[u16],
+) -> Made
+    ensures { λ r. ⌜ r ≡ ofExtended (extended pattern low high excluding (now (words .entry))) ⌝ }
 {
-    let added = pattern.with_slot(low, high, words);
+    let added = pattern.with_slot(low, high, excluding, words);
     let verdict = added.verdict;
     let longer = added.pattern;
     with_pattern(verdict, longer)

@@ -8,11 +8,11 @@ use pattern::Refusal;
 // A pattern of n slots that take 7, with gaps from 0 to `high`.
 fn sevens(n: usize, high: u16) -> Pattern {
     let word = [7u16];
-    let one = Pattern::new().with_slot(0, 0, &word);
+    let one = Pattern::new().with_slot(0, 0, false, &word);
     let mut pattern = one.pattern;
     let mut j = 1;
     while j < n {
-        let longer = pattern.with_slot(0, high, &word);
+        let longer = pattern.with_slot(0, high, false, &word);
         pattern = longer.pattern;
         j += 1;
     }

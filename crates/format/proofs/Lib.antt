@@ -4,6 +4,7 @@ mod LineSteps
 mod PassedSteps
 mod PartSteps
 mod SlotSteps
+mod WordSteps
 mod TextSteps
 mod InputSteps
 mod PatternSteps

@@ -3,6 +3,7 @@ pub mod Numbers
 pub mod Lines
 pub mod TextShown
 pub mod Fields
+pub mod Words
 pub mod Orders
 pub mod PatternPrinted
 pub mod PatternShown

@@ -4,6 +4,7 @@ pub mod Lines
 pub mod Layouts
 pub mod Names
 pub mod Texts
+pub mod Words
 pub mod Patterns
 pub mod Input
 pub mod Shown

@@ -13,7 +13,8 @@ use Rattle.pattern.specs.declared.refusal.Verdict.the-variants.{Accepted, Refus
 use Rattle.pattern.specs.Patterns.{emptySlot, emptyPattern, slotOf}
 use Rattle.basics.specs.Choice.{pick}
 use Rattle.pattern.specs.Tests.{patternVerdict}
-use Rattle.format.specs.Bytes.{lines, ended, parts, fields, field, value, isNumber, allNumbers}
+use Rattle.format.specs.Bytes.{lines, ended, fields, field, value, isNumber, allNumbers}
+use Rattle.format.specs.Words.{marked, wordParts}
 use Rattle.format.specs.Layouts.{scan}
 use Rattle.format.specs.Names.{leastName, mostName, column, spanNames, slotNames, columnsOf}
 use Rattle.format.specs.declared.layout.Layout.{Layout}
@@ -27,12 +28,12 @@ use Rattle.format.specs.declared.patterns.PatternRead.{PatternRead}
 abbrev pub spanValues : List ℕ → Bool
 spanValues l = pick (eqb (length (fields l)) 2) (pick (isNumber (field l 0)) (isNumber (field l 1)) false) false
 
--- the line has two numbers and, between commas, one number or more
+-- the line has two numbers and words
 unfoldable pub slotValues : Columns → List ℕ → Bool
 slotValues c l =
     pick (eqb (length (fields l)) 3)
     (pick (isNumber (field l (c .low)))
-    (pick (isNumber (field l (c .high))) (allNumbers (parts (field l (c .words)) 44)) false)
+    (pick (isNumber (field l (c .high))) (allNumbers (wordParts (field l (c .words)))) false)
     false)
     false
 
@@ -40,11 +41,17 @@ slotValues c l =
 pub record SlotLine : Type 0 where
   pub low : ℕ
   pub high : ℕ
+  pub excluding : Bool
   pub words : List ℕ
 
--- the numbers of a slot's line, by its columns
+-- the numbers and the mark of a slot's line, by its columns
 abbrev pub readSlot : Columns → List ℕ → SlotLine
-readSlot c l = record { low = value (field l (c .low)); high = value (field l (c .high)); words = map value (parts (field l (c .words)) 44) }
+readSlot c l = record {
+  low = value (field l (c .low));
+  high = value (field l (c .high));
+  excluding = marked (field l (c .words));
+  words = map value (wordParts (field l (c .words)));
+}
 
 -- what stands on a file's lines: the span limits and the slots, or why the layout is refused
 pub data PatternContents : Type 0 where
@@ -79,7 +86,7 @@ patternContents s = fromNames (lines s) (ended s 10)
 
 -- the slot of a line
 abbrev pub madeSlot : SlotLine → Slot
-madeSlot l = slotOf (l .low) (l .high) (l .words)
+madeSlot l = slotOf (l .low) (l .high) (l .excluding) (l .words)
 
 -- the first sixteen slots, and unused ones after them
 abbrev pub firstSlots : List Slot → List Slot

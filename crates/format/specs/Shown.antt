@@ -1,6 +1,8 @@
 -- The other face of the format, stated by printing: the bytes of a file that shows a text or a pattern.
 use Prim.Native.Nat.{ℕ, _≤_, _<_}
 use mathlib.Core.List.{List, [], _∷_, _++_, map}
+use mathlib.Core.Bool.{Bool, false}
+use mathlib.Core.Path.{_≡_}
 use lib.Dec.{eqb}
 use lib.ListN.{length}
 use Rattle.basics.specs.Choice.{pick}
@@ -66,9 +68,13 @@ oneOf c k l h w = pick (eqb (c .low) k) l (pick (eqb (c .high) k) h w)
 abbrev pub three : {A : Type 0} → Columns → A → A → A → List A
 three c l h w = oneOf c 0 l h w ∷ oneOf c 1 l h w ∷ oneOf c 2 l h w ∷ []
 
+-- a slot's words with commas between them, and `!` before those of an excluding slot
+abbrev pub wordsText : Bool → List ℕ → List ℕ
+wordsText excluding ws = pick excluding (33 ∷ []) [] ++ joined (map digits ws) 44
+
 -- the line of a slot
 unfoldable pub slotText : Columns → SlotLine → List ℕ
-slotText c r = joined (three c (digits (r .low)) (digits (r .high)) (joined (map digits (r .words)) 44)) 32
+slotText c r = joined (three c (digits (r .low)) (digits (r .high)) (wordsText (r .excluding) (r .words))) 32
 
 -- the lines of a pattern file
 abbrev pub fileLines : ℕ → Columns → ℕ → ℕ → List SlotLine → List (List ℕ)
@@ -76,12 +82,12 @@ fileLines i c least most rs =
     joined (two i leastName mostName) 32 ∷ joined (two i (digits least) (digits most)) 32 ∷
     joined (three c lowName highName wordsName) 32 ∷ map (slotText c) rs
 
--- numbers that can be shown, and at least one word
+-- numbers that can be shown, and at least one word where the slot is not excluding
 pub record SmallSlot (r : SlotLine) : Type 0 where
   pub low : r .low ≤ 65535
   pub high : r .high ≤ 65535
   pub words : Small (r .words)
-  pub some : 0 < length (r .words)
+  pub some : r .excluding ≡ false → 0 < length (r .words)
 
 -- all lines are such
 pub data SmallSlots : List SlotLine → Type 0 where

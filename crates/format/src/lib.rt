@@ -9,6 +9,7 @@ mod patterns;
 mod reader;
 mod texts;
 mod values;
+mod words;
 
 pub use input::InputRead;
 pub use input::read_input;

@@ -1,14 +1,14 @@
-use crate::fields::all_numbers;
 use crate::fields::count;
 use crate::fields::part;
 use crate::names::Columns;
 use crate::numbers::decimal;
 use crate::numbers::value;
+use crate::words::all_words;
+use crate::words::count_words;
+use crate::words::first_words;
+use crate::words::marked;
 use pattern::Slot;
 ghost use mathlib.Core.Path.{_≡_};
-ghost use mathlib.Core.List.{map};
-ghost use Rattle.pattern.specs.Patterns.{padded};
-ghost use Rattle.format.specs.Bytes.{parts, value};
 ghost use Rattle.format.specs.Patterns.{spanValues, slotValues, readSlot, madeSlot};
 
 // Whether a line has two numbers.
@@ -38,18 +38,7 @@ pub(crate) fn slot_values(s: &[u8], c: Columns) -> bool
     if 65535 < decimal(part(s, b' ', c.high)) {
         return false;
     }
-    all_numbers(part(s, b' ', c.words))
-}
-
-// The first eight of the numbers between the commas, and 0 in the entries that they leave.
-fn words_of(s: &[u8]) -> [u16; 8]
-    ensures { λ r. ⌜ r ≡ padded (map value (parts (now (s .entry)) 44)) ⌝ }
-{
-    let mut words = [0u16; 8];
-    for i in 0..8 {
-        words[i] = value(part(s, b',', i));
-    }
-    words
+    all_words(part(s, b' ', c.words))
 }
 
 // The slot that a line shows.
@@ -58,9 +47,10 @@ pub(crate) fn slot_of(s: &[u8], c: Columns) -> Slot
 {
     let list = part(s, b' ', c.words);
     Slot {
-        words: words_of(list),
-        count: count(list, b','),
+        words: first_words(list),
+        count: count_words(list),
         low: value(part(s, b' ', c.low)),
         high: value(part(s, b' ', c.high)),
+        excluding: marked(list),
     }
 }

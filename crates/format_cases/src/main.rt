@@ -87,6 +87,20 @@ fn long_cases() {
     text_case(first(&text, 40008));
 }
 
+// Pattern files with excluding slots, right and refused.
+fn mark_cases() {
+    pattern_case(b"least most\n1 20000\nlow high words\n0 0 7\n0 0 !12,15\n0 0 !\n");
+    pattern_case(b"least most\n1 20000\nwords high low\n! 0 0\n");
+    pattern_case(b"least most\n1 20000\nlow high words\n0 0 !!\n");
+    pattern_case(b"least most\n1 20000\nlow high words\n0 0 !,1\n");
+    pattern_case(b"least most\n1 20000\nlow high words\n0 0 7\n0 0 !1,\n");
+    pattern_case(b"least most\n1 20000\nlow high words\n0 0 1,!2\n");
+    pattern_case(b"least most\n1 20000\nlow high words\n!0 0 7\n");
+    pattern_case(b"least most\n1 20000\nlow high words\n0 0 !1,2,3,4,5,6,7,8\n");
+    pattern_case(b"least most\n1 20000\nlow high words\n0 0 !1,2,3,4,5,6,7,8,9\n");
+    pattern_case(b"least most\n1 20000\nlow high words\n0 0 7\n0 0 !7,0\n");
+}
+
 // The files, one after the other.
 fn main() {
     pattern_case(b"least most\n1 20000\nlow high words\n0 0 7\n0 1 1\n0 1 1\n");
@@ -115,5 +129,6 @@ fn main() {
     input_case(b"least most\n0 5\nlow high words\n0 0 7\n", b"word");
     input_case(b"least most\n1 5\nlow high words\n0 0 7\n", b"word");
     input_case(b"least most\n1 5\nlow high words\n0 0 7\n", b"word\n7\n7\n");
+    mark_cases();
     long_cases();
 }

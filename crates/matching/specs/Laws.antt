@@ -19,6 +19,7 @@ pub mod Views
 pub mod Lengths
 pub mod Texts
 pub mod SentenceTexts
+pub mod ExcludingTexts
 pub mod Mirror
 pub mod Turning
 pub mod Ready

@@ -13,6 +13,7 @@ pub mod Largest
 pub mod Answers
 pub mod Texts
 pub mod SentenceTexts
+pub mod ExcludingTexts
 pub mod Joining
 pub mod Steps
 pub mod Laws

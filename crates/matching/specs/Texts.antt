@@ -2,6 +2,7 @@
 use Prim.Native.Nat.{ℕ, _-_}
 use mathlib.Core.Path.{_≡_}
 use mathlib.Core.List.{List, [], _∷_, _++_}
+use mathlib.Core.Bool.{false}
 use mathlib.Core.Option.{none}
 use lib.ListN.{length, replicate}
 use Rattle.pattern.specs.declared.slot.Slot.{Slot}
@@ -15,7 +16,7 @@ use Rattle.matching.specs.Lists.{leftmost, rightmost}
 
 -- a slot of one word
 unfoldable pub oneWord : ℕ → ℕ → ℕ → Slot
-oneWord w low high = slotOf low high (w ∷ [])
+oneWord w low high = slotOf low high false (w ∷ [])
 
 -- the pattern of these slots
 unfoldable pub patternOf : List Slot → ℕ → ℕ → Pattern

@@ -7,24 +7,24 @@ ghost use Rattle.matching.specs.Steps.Laid.{SlotLaid, LaidOut};
 
 // Lays out a slot from the entry `at` on.
 fn put_slot(laid: &mut [u16], at: usize, slot: Slot)
-    requires { ⌜ at + 11 ≤ length (now laid) ⌝ }
+    requires { ⌜ at + 12 ≤ length (now laid) ⌝ }
     ensures { λ _. ⌜ SlotLaid slot at (now (laid .entry)) (now (laid .exit)) ⌝ }
 {
     let numbers = slot.numbers();
-    put_row(&mut laid[at..], &numbers, 11);
+    put_row(&mut laid[at..], &numbers, 12);
 }
 
-// The pattern's slots as numbers, eleven a slot.
-pub(crate) fn lay_out(f: Pattern) -> [u16; 176]
+// The pattern's slots as numbers, twelve a slot.
+pub(crate) fn lay_out(f: Pattern) -> [u16; 192]
     requires { ⌜ f .count ≤ 16 ⌝ }
     ensures { λ r. ⌜ LaidOut f r ⌝ }
 {
     let m = f.count;
-    let mut laid = [0u16; 176];
+    let mut laid = [0u16; 192];
     let mut j = 0;
     while j < m {
         let s = f.slots[j];
-        put_slot(&mut laid, 11 * j, s);
+        put_slot(&mut laid, 12 * j, s);
         j += 1;
     }
     laid

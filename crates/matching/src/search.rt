@@ -35,8 +35,8 @@ fn visit(
 {
     let i = prior(j, m);
     let k = next(j, m);
-    let at = 11 * j;
-    let after = 11 * k;
+    let at = 12 * j;
+    let after = 12 * k;
     let from = need(
         j,
         m,
@@ -48,7 +48,7 @@ fn visit(
         widen(least),
         widen(most),
     );
-    first(&laid[at..at + 11], text, mirrored, from)
+    first(&laid[at..at + 12], text, mirrored, from)
 }
 
 // Raises the row to the earliest occurrence at or after it, as if no sentence ended, if there is one: the slots are visited in turn

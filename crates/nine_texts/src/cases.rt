@@ -38,7 +38,7 @@ pub fn first(list: &[u16], n: usize) -> &[u16] {
 // The pattern with one slot more; as it was for the word 0, which is refused.
 fn longer(pattern: Pattern, low: u16, high: u16, word: u16) -> Pattern {
     let words = [word];
-    let extended = pattern.with_slot(low, high, &words);
+    let extended = pattern.with_slot(low, high, false, &words);
     extended.pattern
 }
 

@@ -1,14 +1,15 @@
--- The patterns and texts that document 01 accepts, by their limits ("Text and frame").
+-- The patterns and texts that are accepted, by their limits (document 01, "Text and frame"; document 02, Job 2).
 use Prim.Native.Nat.{ℕ, _≤_, _<_}
 use mathlib.Core.Path.{_≡_}
+use mathlib.Core.Bool.{false}
 use mathlib.Core.List.{List·Memᴰ}
 use Rattle.pattern.specs.declared.slot.Slot.{Slot}
 use Rattle.pattern.specs.declared.Pattern.{Pattern}
 use Rattle.pattern.specs.Patterns.{stated, slotAt}
 
--- a slot: 1 to 8 words, none of them 0, and a gap within 0 to 63
+-- a slot: 1 to 8 words (excluding: 0 to 8), none of them 0, and a gap within 0 to 63
 pub record AcceptedSlot (s : Slot) : Type 0 where
-  pub some : 1 ≤ s .count
+  pub some : s .excluding ≡ false → 1 ≤ s .count
   pub few : s .count ≤ 8
   pub nonzero : List·Memᴰ 0 (stated s) → ⊥
   pub ordered : s .low ≤ s .high

@@ -1,6 +1,7 @@
 -- Adding a slot: tests 1, then 2, 3 and 4 of the new slot alone, whose number is the place. A refusal gives the pattern back unchanged.
 use Prim.Native.Nat.{ℕ, _+_}
 use mathlib.Core.List.{List}
+use mathlib.Core.Bool.{Bool}
 use lib.Dec.{leb}
 use Rattle.pattern.specs.declared.slot.Slot.{Slot}
 use Rattle.pattern.specs.declared.Pattern.{Pattern}
@@ -18,7 +19,7 @@ added Accepted f s = record { verdict = Accepted; pattern = withSlot f s }
 added (Refused why) f s = record { verdict = Refused why; pattern = f }
 
 -- what adding a slot gives (document 01: adding)
-unfoldable pub extended : Pattern → ℕ → ℕ → List ℕ → Extended
-extended f low high ws =
+unfoldable pub extended : Pattern → ℕ → ℕ → Bool → List ℕ → Extended
+extended f low high excluding ws =
     pick (leb 16 (f .count)) (record { verdict = Refused SlotCount; pattern = f })
-    (added (slotVerdict (f .count + 1) (slotOf low high ws)) f (slotOf low high ws))
+    (added (slotVerdict (f .count + 1) (slotOf low high excluding ws)) f (slotOf low high excluding ws))

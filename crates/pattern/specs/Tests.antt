@@ -1,4 +1,4 @@
--- The tests 1 to 6 of document 01, "Turned away", in their order: the first that applies refuses.
+-- The tests 1 to 6 of document 01, "Turned away", in their order, 2 as document 02, Job 2, has it: the first that applies refuses.
 use Prim.Native.Nat.{ℕ, zero, suc, _+_}
 use mathlib.Core.Bool.{Bool}
 use lib.Dec.{ltb, eqb}
@@ -9,7 +9,7 @@ use Rattle.pattern.specs.declared.refusal.Refusal.{Refusal}
 use Rattle.pattern.specs.declared.refusal.Refusal.the-variants.{SlotCount, WordCount, ZeroWord, Gap, Span, TextLength}
 use Rattle.pattern.specs.declared.refusal.Verdict.{Verdict}
 use Rattle.pattern.specs.declared.refusal.Verdict.the-variants.{Accepted, Refused}
-use Rattle.pattern.specs.Patterns.{takes, slotAt}
+use Rattle.pattern.specs.Patterns.{lists, slotAt}
 
 -- refused where the test applies, else as the later tests say
 abbrev pub refuse : Bool → Refusal → Verdict → Verdict
@@ -24,12 +24,16 @@ andThen (Refused why) later = Refused why
 abbrev pub widestGap : ℕ → ℕ
 widestGap k = pick (eqb k 1) 0 63
 
+-- the fewest words of a slot: an excluding slot may have none
+abbrev pub fewestWords : Bool → ℕ
+fewestWords excluding = pick excluding 0 1
+
 -- 2, 3 and 4, of slot number k
 unfoldable pub slotVerdict : ℕ → Slot → Verdict
 slotVerdict k s =
-    refuse (eqb (s .count) 0) (WordCount k)
+    refuse (ltb (s .count) (fewestWords (s .excluding))) (WordCount k)
     (refuse (ltb 8 (s .count)) (WordCount k)
-    (refuse (takes s 0) (ZeroWord k)
+    (refuse (lists s 0) (ZeroWord k)
     (refuse (ltb (s .high) (s .low)) (Gap k)
     (refuse (ltb (widestGap k) (s .high)) (Gap k) Accepted))))
 

@@ -4,7 +4,7 @@ use crate::Slot;
 use crate::Verdict;
 ghost use mathlib.Core.Path.{_≡_};
 ghost use Prim.Native.Nat.{_≤_};
-ghost use Rattle.pattern.specs.Tests.{widestGap, slotVerdict, slotsVerdict, spanVerdict};
+ghost use Rattle.pattern.specs.Tests.{widestGap, fewestWords, slotVerdict, slotsVerdict, spanVerdict};
 
 // The widest gap that may stand before slot number k.
 fn widest(k: usize) -> u16
@@ -16,18 +16,25 @@ fn widest(k: usize) -> u16
     Pattern::HIGH
 }
 
+// The fewest words of a slot: one, or none where it is excluding.
+fn fewest(excluding: bool) -> usize
+    ensures { λ r. ⌜ r ≡ fewestWords excluding ⌝ }
+{
+    if excluding { 0 } else { 1 }
+}
+
 // Tests 2, 3 and 4 of slot number k.
 pub(crate) fn slot_verdict(k: usize, slot: Slot) -> Verdict
     ensures { λ r. ⌜ r ≡ slotVerdict k slot ⌝ }
 {
     let count = slot.count;
-    if count == 0 {
+    if count < fewest(slot.excluding) {
         return Verdict::Refused(Refusal::WordCount(k));
     }
     if Pattern::WORDS < count {
         return Verdict::Refused(Refusal::WordCount(k));
     }
-    let zero = slot.takes(0);
+    let zero = slot.lists(0);
     if zero {
         return Verdict::Refused(Refusal::ZeroWord(k));
     }

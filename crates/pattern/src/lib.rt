@@ -56,6 +56,7 @@ impl Pattern {
             count: 0,
             low: 0,
             high: 0,
+            excluding: false,
         };
         Pattern {
             slots: [unused; 16],
@@ -79,8 +80,8 @@ impl Pattern {
     }
 
     // The pattern with one slot more, after the others.
-    pub fn with_slot(self, low: u16, high: u16, words: &[u16]) -> Extended
-        ensures { λ r. ⌜ r ≡ extended self low high (now (words .entry)) ⌝ }
+    pub fn with_slot(self, low: u16, high: u16, excluding: bool, words: &[u16]) -> Extended
+        ensures { λ r. ⌜ r ≡ extended self low high excluding (now (words .entry)) ⌝ }
     {
         let count = self.count;
         if Pattern::SLOTS <= count {
@@ -89,7 +90,7 @@ impl Pattern {
                 pattern: self,
             };
         }
-        let slot = Slot::of(low, high, words);
+        let slot = Slot::of(low, high, excluding, words);
         let verdict = checks::slot_verdict(count + 1, slot);
         if let Verdict::Refused(why) = verdict {
             return Extended {

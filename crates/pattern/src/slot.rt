@@ -1,18 +1,19 @@
 use basics::smaller;
 use basics::widen;
 ghost use mathlib.Core.Path.{_≡_};
-ghost use Rattle.pattern.specs.Patterns.{slotOf, withGap, takes, member, padded};
-ghost use Rattle.pattern.specs.Numbers.{Numbers, numbersTake};
+ghost use Rattle.pattern.specs.Patterns.{slotOf, withGap, lists, taken, takes, member, padded};
+ghost use Rattle.pattern.specs.Numbers.{Numbers, markNumber, numbersTake};
 ghost use lib.ListN.{take};
 ghost use Prim.Native.Nat.{min};
 
-// One element of a pattern (document 01: slot): the words it takes and the gap before it.
+// One element of a pattern (document 01: slot): the words it lists, the gap before it, and whether it takes these or any but these.
 #[repr(C)]
 pub struct Slot {
     pub words: [u16; 8],
     pub count: usize,
     pub low: u16,
     pub high: u16,
+    pub excluding: bool,
 }
 
 // Whether the word is one of the first `count` of the words.
@@ -28,6 +29,23 @@ fn lists(words: &[u16], count: usize, word: u16) -> bool
         i += 1;
     }
     false
+}
+
+// Whether a slot takes a word, by its mark and by whether it lists the word.
+fn taken(excluding: bool, word: u16, listed: bool) -> bool
+    ensures { λ r. ⌜ r ≡ taken excluding word listed ⌝ }
+{
+    if excluding {
+        return !(listed | (word == 0));
+    }
+    listed
+}
+
+// The mark as a number: 1 for an excluding slot, else 0.
+fn mark_number(excluding: bool) -> u16
+    ensures { λ r. ⌜ r ≡ markNumber excluding ⌝ }
+{
+    if excluding { 1 } else { 0 }
 }
 
 // How many of a slot's eight words count.
@@ -54,23 +72,32 @@ fn eight(words: &[u16]) -> [u16; 8]
 
 impl Slot {
     // The slot with these words, as many as there are, and 0 in its unused entries.
-    pub(crate) fn of(low: u16, high: u16, words: &[u16]) -> Self
-        ensures { λ r. ⌜ r ≡ slotOf low high (now (words .entry)) ⌝ }
+    pub(crate) fn of(low: u16, high: u16, excluding: bool, words: &[u16]) -> Self
+        ensures { λ r. ⌜ r ≡ slotOf low high excluding (now (words .entry)) ⌝ }
     {
         Slot {
             words: eight(words),
             count: words.len(),
             low,
             high,
+            excluding,
         }
+    }
+
+    // Whether the slot lists the word.
+    pub fn lists(self, word: u16) -> bool
+        ensures { λ r. ⌜ r ≡ lists self word ⌝ }
+    {
+        let words = self.words;
+        lists(&words, self.count, word)
     }
 
     // Whether the slot takes the word.
     pub fn takes(self, word: u16) -> bool
         ensures { λ r. ⌜ r ≡ takes self word ⌝ }
     {
-        let words = self.words;
-        lists(&words, self.count, word)
+        let listed = self.lists(word);
+        taken(self.excluding, word, listed)
     }
 
     // The slot with another gap before it.
@@ -83,14 +110,15 @@ impl Slot {
         slot
     }
 
-    // The slot as eleven numbers: the two bounds of its gap, how many words it states, and its eight words.
-    pub fn numbers(self) -> [u16; 11]
+    // The slot as twelve numbers: the two bounds of its gap, its mark, how many words it states, and its eight words.
+    pub fn numbers(self) -> [u16; 12]
         ensures { λ r. ⌜ Numbers self r ⌝ }
     {
         let w = self.words;
         [
             self.low,
             self.high,
+            mark_number(self.excluding),
             stated(self.count),
             w[0],
             w[1],
@@ -107,9 +135,10 @@ impl Slot {
     pub fn numbers_take(numbers: &[u16], word: u16) -> bool
         ensures { λ r. ⌜ r ≡ numbersTake (now (numbers .entry)) word ⌝ }
     {
-        if numbers.len() < 11 {
+        if numbers.len() < 12 {
             return false;
         }
-        lists(&numbers[3..11], widen(numbers[2]), word)
+        let listed = lists(&numbers[4..12], widen(numbers[3]), word);
+        taken(numbers[2] == 1, word, listed)
     }
 }

@@ -14,12 +14,25 @@ fn stretch<const BACK: bool>(text: &[u16], from: usize, to: usize) -> Option<&[u
     }
 }
 
+/// How many of the words stand before the first that is taken.
+fn before_first<const BACK: bool>(words: &[u16], takes: impl Fn(&u16) -> bool) -> Option<usize> {
+    let mut words = words.iter();
+    if BACK {
+        words.rev().position(takes)
+    } else {
+        words.position(takes)
+    }
+}
+
 /// The first place from `from` on whose word the slot takes.
 fn first<const BACK: bool>(slot: &Slot, text: &[u16], from: usize) -> Option<usize> {
     let words = &slot.words[..slot.count];
-    let mut rest = stretch::<BACK>(text, from, text.len() + 1)?.iter();
-    let takes = |word: &u16| words.contains(word);
-    let skipped = if BACK { rest.rev().position(takes) } else { rest.position(takes) };
+    let rest = stretch::<BACK>(text, from, text.len() + 1)?;
+    let skipped = if slot.excluding {
+        before_first::<BACK>(rest, |word| *word != 0 && !words.contains(word))
+    } else {
+        before_first::<BACK>(rest, |word| words.contains(word))
+    };
     Some(from + skipped?)
 }
 

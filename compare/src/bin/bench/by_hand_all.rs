@@ -27,6 +27,16 @@ struct Window {
     from: usize,
 }
 
+/// Whether the slot takes the word: one that it lists, or if it is excluding, any other but 0.
+pub fn takes(slot: &Slot, word: u16) -> bool {
+    let lists = slot.words[..slot.count].contains(&word);
+    if slot.excluding {
+        word != 0 && !lists
+    } else {
+        lists
+    }
+}
+
 /// For each index, where its sentence ends, or the text.
 fn horizons(text: &[u16]) -> Vec<u16> {
     let mut lasts = vec![0; text.len()];
@@ -44,10 +54,7 @@ impl<'a> Input<'a> {
     /// The pattern and the text, made ready.
     fn new(pattern: &'a Pattern, text: &[u16]) -> Self {
         let slots = &pattern.slots[..pattern.count];
-        let takes = |slot: &Slot| {
-            let words = &slot.words[..slot.count];
-            text.iter().map(|word| words.contains(word)).collect()
-        };
+        let takes = |slot: &Slot| text.iter().map(|&word| takes(slot, word)).collect();
         let distance = |sum: &mut usize, slot: &Slot| {
             *sum += slot.high as usize + 1;
             Some(*sum - 1)

@@ -161,5 +161,11 @@ pub fn cases() -> Vec<Case> {
             cases.push(loose(kind, 4, 3, call));
         }
     }
+    for call in [Call::Front, Call::Back, Call::Count, Call::Tally, Call::All, Call::Forward, Call::Backward] {
+        for listed in [1, 2, 8] {
+            cases.push(loose(Kind::Plain(listed), 3, 3, call));
+            cases.push(loose(Kind::Excluding(listed), 3, 3, call));
+        }
+    }
     cases
 }

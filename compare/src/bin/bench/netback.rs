@@ -2,6 +2,7 @@
 //!
 //! It knows of no sentence ends: in a text that has some its rows may go past them.
 
+use crate::by_hand_all::takes;
 use crate::clock::cpu_ms;
 use compare::layout::{Pattern, Slot};
 
@@ -43,11 +44,6 @@ pub enum Visits {
     Any,
     /// Once, as Theorem 4 claims.
     Once,
-}
-
-/// Whether the slot takes the word.
-fn takes(slot: &Slot, word: u16) -> bool {
-    slot.words[..slot.count].contains(&word)
 }
 
 /// A node that is linked to none yet.

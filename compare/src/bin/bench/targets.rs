@@ -1,7 +1,7 @@
 //! Whether the targets hold.
 
 use crate::calls::{fail, library, Call};
-use crate::cases::{Case, Measured, Rival, Rivals, LIMIT_MS};
+use crate::cases::{cases, Case, Measured, Rival, Rivals, LIMIT_MS};
 use crate::clock::rivals;
 use crate::texts::{Kind, Spans, WORDS};
 
@@ -76,6 +76,23 @@ fn against_count() -> Vec<Figure> {
     figures
 }
 
+/// How many times as long as with a plain slot of as many words each call takes with an excluding one, for the same rows.
+fn against_plain() -> Vec<Figure> {
+    let mut figures = Vec::new();
+    for case in cases() {
+        let Kind::Excluding(listed) = case.kind else {
+            continue;
+        };
+        let (mut ready, value) = case.compared(WORDS);
+        let (mut plain, expected) = Case { kind: Kind::Plain(listed), ..case }.compared(WORDS);
+        if value != expected || ready.list != plain.list {
+            fail(&format!("excluding and plain slots differ: {}", case.describe()));
+        }
+        figures.push((rivals(|| ready.library(), || plain.library()).ratio, case));
+    }
+    figures
+}
+
 /// The milliseconds of the tally with 16 slots, gaps 0 to 63 and spans that bind.
 fn tally_times(all: &[Measured]) -> Vec<Figure> {
     let binds = |m: &&Measured| {
@@ -108,5 +125,10 @@ pub fn print(all: &[Measured]) {
         "The tally with 16 slots, gaps 0–63 and spans that bind takes at most 500 ms",
         Limit::AtMost(500.0),
         tally_times(all),
+    );
+    verdict(
+        "With an excluding slot a call takes at most 1.1 times as long as with a plain one of as many words",
+        Limit::AtMost(1.1),
+        against_plain(),
     );
 }

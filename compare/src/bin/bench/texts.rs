@@ -29,6 +29,11 @@ pub enum Kind {
     OutOfReach,
     /// Random over four words, with sentence ends; each slot takes one of the words.
     Sentences,
+    /// Random over twice so many words, with sentence ends; the slots up to the middle take one half of the words, those
+    /// past it the other.
+    Plain(u16),
+    /// The same text with the same occurrences; the middle slot excludes the other half.
+    Excluding(u16),
 }
 
 /// What the span limits are.
@@ -44,14 +49,16 @@ pub enum Spans {
 
 impl fmt::Display for Kind {
     fn fmt(&self, out: &mut fmt::Formatter) -> fmt::Result {
-        out.write_str(match self {
-            Kind::Random => "four words",
-            Kind::Zipf => "Zipf",
-            Kind::Equal => "all equal",
-            Kind::Absent => "never: word",
-            Kind::OutOfReach => "never: span",
-            Kind::Sentences => "sentences",
-        })
+        match self {
+            Kind::Random => out.write_str("four words"),
+            Kind::Zipf => out.write_str("Zipf"),
+            Kind::Equal => out.write_str("all equal"),
+            Kind::Absent => out.write_str("never: word"),
+            Kind::OutOfReach => out.write_str("never: span"),
+            Kind::Sentences => out.write_str("sentences"),
+            Kind::Plain(listed) => write!(out, "{} words, {listed} taken", 2 * listed),
+            Kind::Excluding(listed) => write!(out, "{} words, {listed} excluded", 2 * listed),
+        }
     }
 }
 
@@ -71,9 +78,9 @@ fn zipf(rng: &mut Rng, words: usize) -> Vec<u16> {
     (0..words).map(draw).collect()
 }
 
-/// The text of four words with sentence ends.
-fn sentences(rng: &mut Rng, words: usize) -> Vec<u16> {
-    (0..words).map(|_| if rng.once_in(SENTENCE) { 0 } else { rng.word(1, 4) }).collect()
+/// The text of words up to `highest` with sentence ends.
+fn sentences(rng: &mut Rng, words: usize, highest: u16) -> Vec<u16> {
+    (0..words).map(|_| if rng.once_in(SENTENCE) { 0 } else { rng.word(1, highest) }).collect()
 }
 
 /// A text of that kind.
@@ -83,11 +90,17 @@ pub fn text(kind: Kind, words: usize) -> Vec<u16> {
         Kind::Random | Kind::Absent => (0..words).map(|_| rng.word(1, 4)).collect(),
         Kind::Zipf => zipf(&mut rng, words),
         Kind::Equal | Kind::OutOfReach => vec![7; words],
-        Kind::Sentences => sentences(&mut rng, words),
+        Kind::Sentences => sentences(&mut rng, words, 4),
+        Kind::Plain(listed) | Kind::Excluding(listed) => sentences(&mut rng, words, 2 * listed),
     }
 }
 
-/// The words that slot j of so many takes.
+/// Whether slot j of so many is excluding.
+fn excluding(kind: Kind, slots: usize, j: usize) -> bool {
+    matches!(kind, Kind::Excluding(_)) && j == slots / 2
+}
+
+/// The words that slot j of so many lists.
 fn slot_words(kind: Kind, slots: usize, j: usize) -> Vec<u16> {
     let k = j as u16;
     match kind {
@@ -95,6 +108,11 @@ fn slot_words(kind: Kind, slots: usize, j: usize) -> Vec<u16> {
         Kind::Random | Kind::Absent | Kind::Sentences => vec![1 + k % 4],
         Kind::Zipf => vec![1 + k % 3, 4 + k % 5],
         Kind::Equal | Kind::OutOfReach => vec![7],
+        Kind::Plain(listed) | Kind::Excluding(listed) => {
+            let past = slots / 2 < j || excluding(kind, slots, j);
+            let first = if past { listed + 1 } else { 1 };
+            (first..first + listed).collect()
+        }
     }
 }
 
@@ -117,6 +135,7 @@ pub fn pattern(kind: Kind, spans: Spans, slots: usize, high: u16) -> Pattern {
     let (least, most) = span_limits(kind, spans, slots, high);
     (0..slots).fold(ffi::pattern_of(least, most), |pattern, j| {
         let high = if j == 0 { 0 } else { high };
-        ffi::with_slot(&pattern, 0, high, &slot_words(kind, slots, j)).pattern
+        let excluding = excluding(kind, slots, j);
+        ffi::with_slot(&pattern, 0, high, excluding, &slot_words(kind, slots, j)).pattern
     })
 }

@@ -1,14 +1,17 @@
--- Document 01's examples of the rows 10 to 13, and the order of the tests where several rows apply. They compute. Assumes nothing.
+-- Document 01's examples of the rows 10 to 13, fields of words with `!`, and the order of the tests where several rows apply. They
+-- compute. Assumes nothing.
 use Prim.Native.Nat.{ℕ, _≤_, _<_}
 use mathlib.Core.List.{List, [], _∷_, _++_, map}
+use mathlib.Core.Bool.{true, false}
 use mathlib.Core.Path.{_≡_, refl}
 use lib.ListN.{length, replicate}
 use borrow.Author.Tests.{le-ltb, lt-ltb}
-use Rattle.pattern.specs.Patterns.{member, takes}
+use Rattle.pattern.specs.Patterns.{member}
 use Rattle.pattern.specs.Tests.{patternVerdict, slotVerdict, slotsVerdict, spanVerdict}
 use Rattle.pattern.specs.declared.refusal.Refusal.the-variants.{FileLength, Gap, Names, SlotCount, Span, TextLength, Values, WordCount, WordListLength, ZeroWord}
 use Rattle.pattern.specs.declared.refusal.Verdict.the-variants.{Accepted}
 use Rattle.format.specs.Bytes.{allNumbers, decimal, ended, lines, more, parts, same, value}
+use Rattle.format.specs.Words.{wordParts}
 use Rattle.format.specs.Layouts.{scan}
 use Rattle.format.specs.Names.{column, highName, leastName, lowName, mostName, wordName, wordsName}
 use Rattle.format.specs.Texts.{textAnswer, textContents, textRead, textWritten, words}
@@ -37,6 +40,10 @@ names = line (lowName ∷ highName ∷ wordsName ∷ [])
 abbrev slot : ℕ → ℕ → ℕ → List ℕ
 slot low high w = line (digits low ∷ digits high ∷ digits w ∷ [])
 
+-- a slot's line with this field of words
+abbrev listing : List ℕ → List ℕ
+listing ws = line (digits 0 ∷ digits 0 ∷ ws ∷ [])
+
 -- a pattern file with the widest span limits
 abbrev file : List (List ℕ) → List ℕ
 file ls = closed (first ∷ wide ∷ names ∷ ls)
@@ -46,8 +53,12 @@ abbrev text : List (List ℕ) → List ℕ
 text ls = closed (wordName ∷ ls)
 
 -- nine words
+nineWords : List ℕ
+nineWords = joined (map digits (1 ∷ 2 ∷ 3 ∷ 4 ∷ 5 ∷ 6 ∷ 7 ∷ 8 ∷ 9 ∷ [])) 44
+
+-- a line with them
 nine : List ℕ
-nine = line (digits 5 ∷ digits 4 ∷ joined (map digits (1 ∷ 2 ∷ 3 ∷ 4 ∷ 5 ∷ 6 ∷ 7 ∷ 8 ∷ 9 ∷ [])) 44 ∷ [])
+nine = line (digits 5 ∷ digits 4 ∷ nineWords ∷ [])
 
 -- ---- the rows of the table
 
@@ -67,8 +78,26 @@ row-11 : (patternRead (file (line (digits 0 ∷ (48 ∷ digits 1) ∷ digits 7 �
     × (patternRead (file (slot 0 0 7 ∷ []) ++ slot 0 1 1) ≡ refusedPattern (Values 5))
     × (textRead (text (digits 7 ∷ (54 ∷ 53 ∷ 53 ∷ 51 ∷ 54 ∷ []) ∷ [])) 9 ≡ NoText (Values 3))
     × (textRead (text (digits 7 ∷ [] ∷ [])) 9 ≡ NoText (Values 3))
-unfolding patternRead patternContents textRead textContents lines ended parts column same decimal more value allNumbers slotValues scan closed joined digits digitsIn
+unfolding patternRead patternContents textRead textContents lines ended parts column same decimal more value allNumbers slotValues wordParts scan closed joined digits digitsIn
 row-11 = (refl, refl, refl, refl, refl, refl)
+
+-- 11: `!` and then no list of words (`!!`, `!,1`, `!1,`); `!` anywhere but before the words (`1,!2`, `1!`, before a bound of a gap,
+-- before a span limit)
+row-11-marks : (patternRead (file (listing (33 ∷ 33 ∷ []) ∷ [])) ≡ refusedPattern (Values 4))
+    × (patternRead (file (listing (33 ∷ 44 ∷ 49 ∷ []) ∷ [])) ≡ refusedPattern (Values 4))
+    × (patternRead (file (listing (33 ∷ 49 ∷ 44 ∷ []) ∷ [])) ≡ refusedPattern (Values 4))
+    × (patternRead (file (listing (49 ∷ 44 ∷ 33 ∷ 50 ∷ []) ∷ [])) ≡ refusedPattern (Values 4))
+    × (patternRead (file (listing (49 ∷ 33 ∷ []) ∷ [])) ≡ refusedPattern (Values 4))
+    × (patternRead (file (line ((33 ∷ digits 0) ∷ digits 0 ∷ digits 7 ∷ []) ∷ [])) ≡ refusedPattern (Values 4))
+    × (patternRead (closed (first ∷ line ((33 ∷ digits 1) ∷ digits 5 ∷ []) ∷ [])) ≡ refusedPattern (Values 2))
+unfolding patternRead patternContents lines ended parts column same decimal more value allNumbers slotValues wordParts scan closed joined digits digitsIn
+row-11-marks = (refl, refl, refl, refl, refl, refl, refl)
+
+-- 2 and 3 where the words are excluded: nine of them; the word 0
+row-2-3-marks : (patternRead (file (listing (33 ∷ nineWords) ∷ [])) ≡ refusedPattern (WordCount 1))
+    × (patternRead (file (slot 0 0 7 ∷ listing (33 ∷ digits 0) ∷ [])) ≡ refusedPattern (ZeroWord 2))
+unfolding nineWords patternRead patternContents lines ended parts column same decimal more value allNumbers slotValues wordParts scan closed joined digits digitsIn patternVerdict slotsVerdict slotVerdict spanVerdict member
+row-2-3-marks = (refl, refl)
 
 -- 12: every file of 60,001 bytes, whatever it holds
 row-12 : (s : List ℕ) (room : ℕ) → length s ≡ 60001 → (patternRead s ≡ refusedPattern FileLength) × (textRead s room ≡ NoText FileLength)
@@ -98,9 +127,20 @@ texts-read = (refl, refl, refl, refl)
 
 -- names in another order: the values follow
 other-order : patternRead (closed (line (mostName ∷ leastName ∷ []) ∷ line (digits 9 ∷ digits 3 ∷ []) ∷ line (wordsName ∷ lowName ∷ highName ∷ []) ∷ line (digits 7 ∷ digits 0 ∷ digits 0 ∷ []) ∷ []))
-    ≡ record { verdict = Accepted; pattern = shownPattern 3 9 (record { low = 0; high = 0; words = 7 ∷ [] } ∷ []) }
-unfolding patternRead patternContents lines ended parts column same decimal more value allNumbers slotValues scan closed joined digits digitsIn patternVerdict slotsVerdict slotVerdict spanVerdict takes member
+    ≡ record { verdict = Accepted; pattern = shownPattern 3 9 (record { low = 0; high = 0; excluding = false; words = 7 ∷ [] } ∷ []) }
+unfolding patternRead patternContents lines ended parts column same decimal more value allNumbers slotValues wordParts scan closed joined digits digitsIn patternVerdict slotsVerdict slotVerdict spanVerdict member
 other-order = refl
+
+-- `7`, `!12,15` and `!`: a plain slot, an excluding slot, and one that excludes no word
+marks-read : patternRead (file (listing (digits 7) ∷ listing (33 ∷ joined (digits 12 ∷ digits 15 ∷ []) 44) ∷ listing (33 ∷ []) ∷ []))
+    ≡ record {
+      verdict = Accepted;
+      pattern = shownPattern 1 20000 (record { low = 0; high = 0; excluding = false; words = 7 ∷ [] }
+          ∷ record { low = 0; high = 0; excluding = true; words = 12 ∷ 15 ∷ [] }
+          ∷ record { low = 0; high = 0; excluding = true; words = [] } ∷ []);
+    }
+unfolding patternRead patternContents lines ended parts column same decimal more value allNumbers slotValues wordParts scan closed joined digits digitsIn patternVerdict slotsVerdict slotVerdict spanVerdict member
+marks-read = refl
 
 -- ---- the order of the tests
 
@@ -112,7 +152,7 @@ pattern-order : (patternRead (closed (first ∷ line (digits 0 ∷ digits 5 ∷ 
     × (patternRead (file (slot 0 0 7 ∷ slot 3 2 0 ∷ nine ∷ [])) ≡ refusedPattern (ZeroWord 2))
     × (patternRead (file (slot 0 0 7 ∷ slot 3 2 7 ∷ nine ∷ [])) ≡ refusedPattern (Gap 2))
     × (patternRead (closed (first ∷ line (digits 0 ∷ digits 5 ∷ []) ∷ names ∷ slot 0 0 7 ∷ [])) ≡ refusedPattern Span)
-unfolding nine patternRead patternContents lines ended parts column same decimal more value allNumbers slotValues scan closed joined digits digitsIn patternVerdict slotsVerdict slotVerdict spanVerdict takes member
+unfolding nine nineWords patternRead patternContents lines ended parts column same decimal more value allNumbers slotValues wordParts scan closed joined digits digitsIn patternVerdict slotsVerdict slotVerdict spanVerdict member
 pattern-order = (refl, refl, refl, refl, refl, refl, refl)
 
 -- 11 before 6, and 6 before 13, of a text whose layout is good
@@ -128,5 +168,5 @@ both-long s e = rw e
 both-order : (inputRead (closed (first ∷ line (digits 0 ∷ digits 5 ∷ []) ∷ names ∷ slot 0 0 7 ∷ [])) wordName 0 ≡ refusedInput Span)
     × (inputRead (file (slot 0 0 7 ∷ [])) wordName 0 ≡ refusedInput (Names 1))
     × (inputRead (file (slot 0 0 7 ∷ [])) (text (digits 7 ∷ [])) 0 ≡ refusedInput WordListLength)
-unfolding inputRead textRead textContents patternRead patternContents lines ended parts column same decimal more value allNumbers slotValues scan closed joined digits digitsIn patternVerdict slotsVerdict slotVerdict spanVerdict takes member
+unfolding inputRead textRead textContents patternRead patternContents lines ended parts column same decimal more value allNumbers slotValues wordParts scan closed joined digits digitsIn patternVerdict slotsVerdict slotVerdict spanVerdict member
 both-order = (refl, refl, refl)

@@ -3,7 +3,7 @@ use Prim.Native.Nat.{ℕ, _≤_, _<_}
 use native.Mathlib.Omega.{arith}
 use mathlib.Core.Bool.{Bool, true, false}
 use mathlib.Core.List.{List, [], _∷_, map}
-use mathlib.Core.Path.{_≡_, refl, sym, _∙_, ap}
+use mathlib.Core.Path.{_≡_, refl, _∙_, ap}
 use lib.Dec.{eqb}
 use lib.ListN.{length, getD}
 use borrow.Author.Tests.{eq-eqb, eqb-false}
@@ -11,10 +11,11 @@ use Rattle.basics.specs.Choice.{pick}
 use Rattle.format.specs.Bytes.{field, fields, parts, same, value}
 use Rattle.format.specs.Names.{column, columnsOf, highName, leastName, lowName, mostName, slotNames, spanNames, wordsName}
 use Rattle.format.specs.Patterns.{SlotLine, fromNames, patternContents, readSlot, shown, slotValues, spanValues}
-use Rattle.format.specs.Shown.{Order2, Order3, PatternShows, SmallSlot, SmallSlots, also-slot, digits, fileLines, hlw, hwl, joined, lhw, lm, lwh, ml, no-slot, oneOf, showing, slotText, three, two, whl, wlh}
+use Rattle.format.specs.Shown.{Order2, Order3, PatternShows, SmallSlot, SmallSlots, also-slot, digits, fileLines, hlw, hwl, joined, lhw, lm, lwh, ml, no-slot, oneOf, showing, slotText, three, two, whl, wlh, wordsText}
 use Rattle.format.specs.declared.names.Columns.{Columns}
 use Rattle.format.specs.Laws.Fields.{free-joined, is-number, parts-joined, value-digits, words-read, words-right}
-use Rattle.format.specs.Laws.Lines.{AllFree, AllRight, Free, all-also, all-digits, all-none, ended-closed, free-also, free-digits, free-none, lines-closed, no-line, right-line, scan-right}
+use Rattle.format.specs.Laws.Words.{WordsPrinted, free-words, words-printed}
+use Rattle.format.specs.Laws.Lines.{AllFree, AllRight, Free, all-also, all-none, ended-closed, free-also, free-digits, free-none, lines-closed, no-line, right-line, scan-right}
 use Rattle.format.specs.Laws.Orders.{cols, three-high, three-low, three-words}
 
 -- the lines of names, which compute
@@ -66,32 +67,31 @@ span-valued ml a b h k =
     let p = parts-joined 32 (digits b) (digits a ∷ []) (all-also (free-digits 32 b (omega arith)) (all-also (free-digits 32 a (omega arith)) all-none)) in
     record { right = rw p (rw (is-number b k) (is-number a h)); first = rw p (value-digits a h); second = rw p (value-digits b k) }
 
-words-parts : (ws : List ℕ) → 0 < length ws → parts (joined (map digits ws) 44) 44 ≡ map digits ws
-words-parts [] h = absurd (omega arith)
-words-parts (w ∷ ws) h = parts-joined 44 (digits w) (map digits ws) (all-digits 44 (omega arith) (w ∷ ws))
-
 -- a line of a slot's values
-module _ (c : Columns) (l : List ℕ) (r : SlotLine) (len : length (parts l 32) ≡ 3) (fl : getD (parts l 32) (c .low) [] ≡ digits (r .low)) (fh : getD (parts l 32) (c .high) [] ≡ digits (r .high)) (fw : getD (parts l 32) (c .words) [] ≡ joined (map digits (r .words)) 44) (small : SmallSlot r) where
+module _ (c : Columns) (l : List ℕ) (r : SlotLine) (len : length (parts l 32) ≡ 3) (fl : getD (parts l 32) (c .low) [] ≡ digits (r .low)) (fh : getD (parts l 32) (c .high) [] ≡ digits (r .high)) (fw : getD (parts l 32) (c .words) [] ≡ wordsText (r .excluding) (r .words)) (small : SmallSlot r) where
+  printed : WordsPrinted (wordsText (r .excluding) (r .words)) (r .excluding) (r .words)
+  printed = words-printed (r .excluding) (small .words) (small .some)
+
   slot-right : slotValues c l ≡ true
   unfolding slotValues
   slot-right =
       rw (eq-eqb (length (parts l 32)) 3 len)
       (rw fl (rw (is-number (r .low) (small .low))
       (rw fh (rw (is-number (r .high) (small .high))
-      (rw fw (rw (words-parts (r .words) (small .some)) (words-right (small .words))))))))
+      (rw fw (rw (printed .words) (words-right (small .words))))))))
 
   slot-read : readSlot c l ≡ r
   slot-read =
-      rw (fl, fh, fw) (rw (value-digits (r .low) (small .low), value-digits (r .high) (small .high), words-parts (r .words) (small .some), words-read (small .words)))
+      rw (fl, fh, fw) (rw (value-digits (r .low) (small .low), value-digits (r .high) (small .high), printed .mark, printed .words, words-read (small .words)))
 
-free-slot : (sep : ℕ) (c : Columns) (r : SlotLine) → sep < 44 → (sep ≡ 32 → ⊥) → Free sep (slotText c r)
+free-slot : (sep : ℕ) (c : Columns) (r : SlotLine) → sep < 32 → Free sep (slotText c r)
 unfolding slotText
-free-slot sep c r h z =
-    free-joined sep 32 (λ e. z (sym e)) (three c (digits (r .low)) (digits (r .high)) (joined (map digits (r .words)) 44))
-    (free-three c (free-digits sep (r .low) (omega arith)) (free-digits sep (r .high) (omega arith)) (free-joined sep 44 (comma sep h) (map digits (r .words)) (all-digits sep (omega arith) (r .words))))
+free-slot sep c r h =
+    free-joined sep 32 (space sep h) (three c (digits (r .low)) (digits (r .high)) (wordsText (r .excluding) (r .words)))
+    (free-three c (free-digits sep (r .low) (omega arith)) (free-digits sep (r .high) (omega arith)) (free-words sep (omega arith) (r .excluding) (r .words)))
   where
-    comma : (a : ℕ) → a < 44 → 44 ≡ a → ⊥
-    comma a k e = omega arith
+    space : (a : ℕ) → a < 32 → 32 ≡ a → ⊥
+    space a k e = omega arith
 
 record Shown (c : Columns) (l : List ℕ) (r : SlotLine) : Type 0 where
   right : slotValues c l ≡ true
@@ -102,9 +102,9 @@ unfolding slotText
 slot-shown {i} {j} {k} o r small =
     let a = digits (r .low) in
     let b = digits (r .high) in
-    let d = joined (map digits (r .words)) 44 in
+    let d = wordsText (r .excluding) (r .words) in
     let c = cols i j k in
-    let w : Free 32 d = free-joined 32 44 comma (map digits (r .words)) (all-digits 32 (omega arith) (r .words)) in
+    let w : Free 32 d = free-words 32 (omega arith) (r .excluding) (r .words) in
     let p : parts (joined (three c a b d) 32) 32 ≡ three c a b d =
     parts-joined 32 (oneOf c 0 a b d) (oneOf c 1 a b d ∷ oneOf c 2 a b d ∷ []) (free-three c (free-digits 32 (r .low) (omega arith)) (free-digits 32 (r .high) (omega arith)) w) in
     let len : length (parts (joined (three c a b d) 32) 32) ≡ 3 = ap (λ (fs : List (List ℕ)). length fs) p in
@@ -112,9 +112,6 @@ slot-shown {i} {j} {k} o r small =
     let fh = ap (λ (fs : List (List ℕ)). getD fs j []) p ∙ three-high o a b d in
     let fw = ap (λ (fs : List (List ℕ)). getD fs k []) p ∙ three-words o a b d in
     record { right = slot-right c (joined (three c a b d) 32) r len fl fh fw small; is = slot-read c (joined (three c a b d) 32) r len fl fh fw small }
-  where
-    comma : _≡_ {A = ℕ} 44 32 → ⊥
-    comma e = omega arith
 
 module _ (i j k : ℕ) (o : Order3 i j k) where
   slots-right : {rs : List SlotLine} → SmallSlots rs → AllRight (slotValues (cols i j k)) (map (slotText (cols i j k)) rs)
@@ -127,10 +124,7 @@ module _ (i j k : ℕ) (o : Order3 i j k) where
 
 free-slots : (c : Columns) (rs : List SlotLine) → AllFree 10 (map (slotText c) rs)
 free-slots c [] = all-none
-free-slots c (r ∷ rs) = all-also (free-slot 10 c r (omega arith) not-space) (free-slots c rs)
-  where
-    not-space : _≡_ {A = ℕ} 10 32 → ⊥
-    not-space e = omega arith
+free-slots c (r ∷ rs) = all-also (free-slot 10 c r (omega arith)) (free-slots c rs)
 
 -- lines that are right, one by one
 accept : (l₁ l₂ l₃ : List ℕ) (ls : List (List ℕ)) (i j : ℕ) (c : Columns) (least most : ℕ) (rs : List SlotLine)

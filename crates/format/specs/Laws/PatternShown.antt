@@ -19,7 +19,8 @@ use Rattle.format.specs.Shown.{Order2, Order3, PatternShows, SmallSlot, 
 use Rattle.format.specs.declared.layout.Layout.{Layout}
 use Rattle.format.specs.declared.layout.Layout.the-variants.{Right, Wrong}
 use Rattle.format.specs.declared.names.Columns.{Columns}
-use Rattle.format.specs.Laws.Fields.{column-is, joined-parts, number-shown, number-small, parts-some, words-shown}
+use Rattle.format.specs.Laws.Fields.{column-is, joined-parts, number-shown, number-small}
+use Rattle.format.specs.Laws.Words.{words-back}
 use Rattle.format.specs.Laws.Lines.{AllRight, closed-read, no-line, right-line, scan-all}
 use Rattle.format.specs.Laws.Orders.{order-three, order-two, three-of, two-of}
 use Rattle.format.specs.Laws.PatternPrinted.{shows-pattern}
@@ -116,10 +117,6 @@ record SlotBack (c : Columns) (l : List ℕ) : Type 0 where
   small : SmallSlot (readSlot c l)
   is : l ≡ slotText c (readSlot c l)
 
-some-words : (ps : List (List ℕ)) → (ps ≡ [] → ⊥) → 0 < length (map value ps)
-some-words [] h = absurd (h refl)
-some-words (p ∷ ps) h = omega arith
-
 slot-back : (c : Columns) → Order3 (c .low) (c .high) (c .words) → (l : List ℕ) → slotValues c l ≡ true → SlotBack c l
 unfolding slotValues slotText
 slot-back c o l e =
@@ -128,15 +125,13 @@ slot-back c o l e =
     let q = both (isNumber (getD fs (c .low) [])) (p .1) in
     let r = both (isNumber (getD fs (c .high) [])) (q .1) in
     let len : length fs ≡ 3 = eqb-true (length fs) 3 (p .0) in
-    let ws = parts (getD fs (c .words) []) 44 in
-    let w = words-shown ws (r .1) in
-    let line : getD fs (c .words) [] ≡ joined (map digits (map value ws)) 44 = sym (joined-parts (getD fs (c .words) []) 44) ∙ ap (λ (x : List (List ℕ)). joined x 44) (w .0) in
+    let w = words-back (getD fs (c .words) []) (r .1) in
     record {
-      small = record { low = number-small (getD fs (c .low) []) (q .0); high = number-small (getD fs (c .high) []) (r .0); words = w .1; some = some-words ws (parts-some (getD fs (c .words) []) 44) };
+      small = record { low = number-small (getD fs (c .low) []) (q .0); high = number-small (getD fs (c .high) []) (r .0); words = w .small; some = w .some };
       is = sym (joined-parts l 32) ∙ ap (λ (x : List (List ℕ)). joined x 32) (three-of o fs len
           ∙ ap (λ (x : List ℕ). three c x (getD fs (c .high) []) (getD fs (c .words) [])) (number-shown (getD fs (c .low) []) (q .0))
           ∙ ap (λ (x : List ℕ). three c (digits (value (getD fs (c .low) []))) x (getD fs (c .words) [])) (number-shown (getD fs (c .high) []) (r .0))
-          ∙ ap (λ (x : List ℕ). three c (digits (value (getD fs (c .low) []))) (digits (value (getD fs (c .high) []))) x) line);
+          ∙ ap (λ (x : List ℕ). three c (digits (value (getD fs (c .low) []))) (digits (value (getD fs (c .high) []))) x) (w .is));
     }
 
 slots-back : (c : Columns) → Order3 (c .low) (c .high) (c .words) → {ls : List (List ℕ)} → AllRight (slotValues c) ls → SmallSlots (map (readSlot c) ls) × (ls ≡ map (slotText c) (map (readSlot c) ls))

@@ -90,7 +90,7 @@ taken-nonzero s z e d = true≢false (sym e ∙ ap (takes s) d ∙ z)
 
 -- an accepted pattern takes no sentence end
 pub accepted-no-end : {f : Pattern} → Accepted f → (t : List ℕ) → NoEndFits (f .count) (plain f t)
-accepted-no-end {f} ok t = record { unfit = λ j h p e. ne-eqb (wordAt t p) 0 (taken-nonzero (slotAt f j) (takes-zero (slotAt f j) .1 (ok .slot j h .nonzero)) e) }
+accepted-no-end {f} ok t = record { unfit = λ j h p e. ne-eqb (wordAt t p) 0 (taken-nonzero (slotAt f j) (takes-zero (ok .slot j h)) e) }
 
 module _ {m : ℕ} {v : View} (no-end : NoEndFits m v) (r : List ℕ) (fit : (j : ℕ) → j < m → v .fits j (at r j) ≡ true) (rise : (j : ℕ) → j + 1 < m → at r j < at r (j + 1)) where
   neighbours : ((j : ℕ) → j + 1 < m → Unbroken (v .ends) (at r j) (at r (j + 1))) → (k : ℕ) → k < m → Unbroken (v .ends) (at r 0) (at r k)

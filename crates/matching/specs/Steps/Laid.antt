@@ -1,4 +1,4 @@
--- A pattern's slots as numbers, eleven a slot, and what the steps of a search are given.
+-- A pattern's slots as numbers, twelve a slot, and what the steps of a search are given.
 use Prim.Native.Nat.{ℕ, _*_, _≤_, _<_}
 use mathlib.Core.List.{List}
 use mathlib.Core.Path.{_≡_}
@@ -12,17 +12,17 @@ use Rattle.matching.specs.Steps.Settling.{Ready, Placed, Spare}
 
 -- the slot stands in l from the entry a on
 pub record LaidSlot (s : Slot) (a : ℕ) (l : List ℕ) : Type 0 where
-  pub numbers : Numbers s (take 11 (drop a l))
+  pub numbers : Numbers s (take 12 (drop a l))
 
 -- it has been put there, and what is before it has stayed
 pub record SlotLaid (s : Slot) (a : ℕ) (l₀ l : List ℕ) : Type 0 where
   pub slot : LaidSlot s a l
   pub before : (k : ℕ) → k < a → at l k ≡ at l₀ k
 
--- every slot of the pattern is laid out in l, eleven numbers a slot
+-- every slot of the pattern is laid out in l, twelve numbers a slot
 pub record LaidOut (f : Pattern) (l : List ℕ) : Type 0 where
-  pub size : length l ≡ 176
-  pub slot : (j : ℕ) → j < f .count → LaidSlot (slotAt f j) (11 * j) l
+  pub size : length l ≡ 192
+  pub slot : (j : ℕ) → j < f .count → LaidSlot (slotAt f j) (12 * j) l
 
 -- the pattern behind the numbers: its slots, and the numbers that stand beside them
 abbrev pub laidPattern : List Slot → ℕ → ℕ → ℕ → Pattern

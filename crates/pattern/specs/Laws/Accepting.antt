@@ -2,13 +2,11 @@
 use Prim.Native.Nat.{ℕ, zero, suc, _+_, _≤_, _<_}
 use native.Mathlib.Omega.{arith}
 use native.Mathlib.Decide.{ℕ-discrete}
-use mathlib.Core.Path.{_≡_, refl, sym, _∙_}
+use mathlib.Core.Path.{_≡_, refl}
 use mathlib.Core.Logic.{_↔_}
-use mathlib.Core.List.{List·Memᴰ}
 use mathlib.Core.Bool.{Bool, true, false, true≢false}
 use lib.Dec.{ltb, eqb}
 use borrow.Author.Tests.{ltb-false, le-ltb, eqb-false, ne-eqb, eq-eqb}
-use Rattle.basics.specs.Laws.Choice.{is-false}
 use Rattle.pattern.specs.declared.slot.Slot.{Slot}
 use Rattle.pattern.specs.declared.Pattern.{Pattern}
 use Rattle.pattern.specs.declared.refusal.Refusal.{Refusal}
@@ -16,10 +14,10 @@ use Rattle.pattern.specs.declared.refusal.Refusal.the-variants.{SlotCoun
 use Rattle.pattern.specs.declared.refusal.Verdict.{Verdict}
 use Rattle.pattern.specs.declared.refusal.Verdict.the-variants.{Refused}
 use Rattle.pattern.specs.declared.refusal.Verdict.the-variants.{Accepted as Fine}
-use Rattle.pattern.specs.Patterns.{member, stated, takes, slotAt}
-use Rattle.pattern.specs.Tests.{refuse, andThen, widestGap, slotVerdict, slotsVerdict, spanVerdict, patternVerdict, inputVerdict}
+use Rattle.pattern.specs.Patterns.{stated, lists, taken, takes, slotAt}
+use Rattle.pattern.specs.Tests.{refuse, andThen, widestGap, fewestWords, slotVerdict, slotsVerdict, spanVerdict, patternVerdict, inputVerdict}
 use Rattle.pattern.specs.Accepted.{AcceptedSlot, Accepted, AcceptedInput}
-use Rattle.pattern.specs.Laws.Members.{member-true, mem-member}
+use Rattle.pattern.specs.Laws.Members.{member-false}
 
 refused-fine : {why : Refusal} → Refused why ≡ Fine → ⊥
 refused-fine e = let z : _≡_ {A = ℕ} 0 1 = cc in omega arith
@@ -43,12 +41,19 @@ accepted-then (Refused why) later e f = absurd (refused-fine e)
 
 -- ---- a slot
 
-pub takes-zero : (s : Slot) → (takes s 0 ≡ false) ↔ (List·Memᴰ 0 (stated s) → ⊥)
+taken-zero : (excluding listed : Bool) → listed ≡ false → taken excluding 0 listed ≡ false
+taken-zero true listed e = rw e
+taken-zero false listed e = e
+
+-- no accepted slot takes 0, excluding or not
+pub takes-zero : {s : Slot} → AcceptedSlot s → takes s 0 ≡ false
 unfolding takes
-takes-zero s = (
-  λ e m. true≢false (sym (mem-member m) ∙ e),
-  λ n. is-false (member 0 (stated s)) (λ e. n (member-true 0 (stated s) e)),
-)
+takes-zero {s} a = taken-zero (s .excluding) (lists s 0) (member-false 0 (stated s) .1 (a .nonzero))
+
+-- as many words as its kind asks for
+words-asked : (excluding : Bool) (n : ℕ) → (ltb n (fewestWords excluding) ≡ false) ↔ (excluding ≡ false → 1 ≤ n)
+words-asked true n = (λ e f. absurd (true≢false f), λ h. le-ltb n 0 (omega arith))
+words-asked false n = (λ e f. ltb-false n 1 e, λ h. le-ltb n 1 (h refl))
 
 -- 0 before the first slot, 63 before a later one
 record Widest (j w : ℕ) : Type 0 where
@@ -78,16 +83,16 @@ pub slot-accepted : (j : ℕ) (s : Slot) → (slotVerdict (j + 1) s ≡ Fine) �
 unfolding slotVerdict
 slot-accepted j s = (
   λ e.
-      let a = refuse-accepted (eqb (s .count) 0) (WordCount (j + 1)) _ e in
+      let a = refuse-accepted (ltb (s .count) (fewestWords (s .excluding))) (WordCount (j + 1)) _ e in
       let b = refuse-accepted (ltb 8 (s .count)) (WordCount (j + 1)) _ (a .1) in
-      let d = refuse-accepted (takes s 0) (ZeroWord (j + 1)) _ (b .1) in
+      let d = refuse-accepted (lists s 0) (ZeroWord (j + 1)) _ (b .1) in
       let g = refuse-accepted (ltb (s .high) (s .low)) (Gap (j + 1)) _ (d .1) in
       let h = refuse-accepted (ltb (widestGap (j + 1)) (s .high)) (Gap (j + 1)) _ (g .1) in
       let k = narrow-gap j (widestGap (j + 1)) (s .high) (widest-at j) (ltb-false (widestGap (j + 1)) (s .high) (h .0)) in (
         record {
-          some = positive (s .count) (eqb-false (s .count) 0 (a .0));
+          some = words-asked (s .excluding) (s .count) .0 (a .0);
           few = ltb-false 8 (s .count) (b .0);
-          nonzero = takes-zero s .0 (d .0);
+          nonzero = member-false 0 (stated s) .0 (d .0);
           ordered = ltb-false (s .high) (s .low) (g .0);
           narrow = k .0;
         },
@@ -95,9 +100,9 @@ slot-accepted j s = (
       ),
   λ p.
       let a = p .0 in
-      accepted-refuse (eqb (s .count) 0) (WordCount (j + 1)) _ (ne-eqb (s .count) 0 (λ e. omega (arith, a .some)))
+      accepted-refuse (ltb (s .count) (fewestWords (s .excluding))) (WordCount (j + 1)) _ (words-asked (s .excluding) (s .count) .1 (a .some))
       (accepted-refuse (ltb 8 (s .count)) (WordCount (j + 1)) _ (le-ltb 8 (s .count) (a .few))
-      (accepted-refuse (takes s 0) (ZeroWord (j + 1)) _ (takes-zero s .1 (a .nonzero))
+      (accepted-refuse (lists s 0) (ZeroWord (j + 1)) _ (member-false 0 (stated s) .1 (a .nonzero))
       (accepted-refuse (ltb (s .high) (s .low)) (Gap (j + 1)) _ (le-ltb (s .high) (s .low) (a .ordered))
       (accepted-refuse (ltb (widestGap (j + 1)) (s .high)) (Gap (j + 1)) _ (le-ltb (widestGap (j + 1)) (s .high) (gap-narrow j (widestGap (j + 1)) (s .high) (widest-at j) (a .narrow) (p .1))) refl)))),
 )

@@ -1,13 +1,15 @@
 -- The test of membership, as the code goes through a list.
 use Prim.Native.Nat.{ℕ, _+_, _<_}
 use native.Mathlib.Numerals.{add-one}
-use mathlib.Core.Path.{_≡_, refl, sym}
-use mathlib.Core.Bool.{Bool, true, false, _||_, false≢true}
+use mathlib.Core.Path.{_≡_, refl, sym, _∙_}
+use mathlib.Core.Logic.{_↔_}
+use mathlib.Core.Bool.{Bool, true, false, _||_, true≢false, false≢true}
 use mathlib.Core.List.{List, [], _∷_, List·Memᴰ, List·Memᴰ·head, List·Memᴰ·tail}
 use lib.ListN.{length, getD, drop}
 use lib.Seq.{drop-cons}
 use lib.Dec.{eqb}
 use borrow.Author.Tests.{eqb-true, eq-eqb, ne-eqb}
+use Rattle.basics.specs.Laws.Choice.{is-false}
 use Rattle.pattern.specs.Patterns.{member}
 
 from-either : {w x : ℕ} {xs : List ℕ} (b : Bool) → (b ≡ true → x ≡ w) → (member w xs ≡ true → List·Memᴰ w xs) → (b || member w xs) ≡ true → List·Memᴰ w (x ∷ xs)
@@ -27,6 +29,9 @@ pub mem-member : {w : ℕ} {xs : List ℕ} → List·Memᴰ w xs → member w xs
 unfolding member
 mem-member {w} (List·Memᴰ·head {x = x} {xs = xs} e) = rw (eq-eqb x w (sym e))
 mem-member {w} (List·Memᴰ·tail {x = x} {xs = xs} m) = or-right (eqb x w) (member w xs) (mem-member m)
+
+pub member-false : (w : ℕ) (xs : List ℕ) → (member w xs ≡ false) ↔ (List·Memᴰ w xs → ⊥)
+member-false w xs = (λ e m. true≢false (sym (mem-member m) ∙ e), λ n. is-false (member w xs) (λ e. n (member-true w xs e)))
 
 -- ---- from element i on
 

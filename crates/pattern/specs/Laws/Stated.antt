@@ -2,12 +2,12 @@
 -- slots take the same words.
 use Prim.Native.Nat.{ℕ, zero, suc, _+_, _≤_, _<_}
 use native.Mathlib.Omega.{arith}
-use mathlib.Core.Path.{_≡_, refl, ap}
+use mathlib.Core.Path.{_≡_, refl}
 use mathlib.Core.List.{List, [], _∷_}
 use lib.ListN.{length, getD, take}
 use Rattle.pattern.specs.declared.slot.Slot.{Slot}
 use Rattle.pattern.specs.declared.Pattern.{Pattern}
-use Rattle.pattern.specs.Patterns.{stated, takes, member}
+use Rattle.pattern.specs.Patterns.{stated, takes}
 use Rattle.pattern.specs.Tests.{slotVerdict, slotsVerdict, patternVerdict, inputVerdict}
 use Rattle.pattern.specs.Stated.{SameSlot, SameStated}
 
@@ -27,11 +27,11 @@ stated-same {s} {u} same = rw (← same .count) (take-same (s .count) (s .words)
 
 pub takes-same : {s u : Slot} → SameSlot s u → (w : ℕ) → takes s w ≡ takes u w
 unfolding takes
-takes-same same w = ap (λ (l : List ℕ). member w l) (stated-same same)
+takes-same same w = rw (same .excluding, stated-same same)
 
 slot-same : {s u : Slot} → SameSlot s u → (k : ℕ) → slotVerdict k s ≡ slotVerdict k u
 unfolding slotVerdict
-slot-same same k = rw (takes-same same 0, same .count, same .low, same .high)
+slot-same same k = rw (stated-same same, same .excluding, same .count, same .low, same .high)
 
 slots-same : {f g : Pattern} → SameStated f g → (n j : ℕ) → j + n ≤ f .count → slotsVerdict f j n ≡ slotsVerdict g j n
 unfolding slotsVerdict

@@ -1,11 +1,12 @@
 -- `format::fields::all_numbers` meets its contract. The invariant: all are numbers exactly if those from `at` on are.
-use Prim.Native.Nat.{_-_, _≤_, _<_}
+use Prim.Native.Nat.{ℕ, _-_, _≤_, _<_}
 use native.Mathlib.Omega.{arith}
 use mathlib.Core.Bool.{true, false}
+use mathlib.Core.List.{List}
 use mathlib.Core.Path.{_≡_, refl, sym, _∙_}
 use lib.ListN.{length, take, drop}
 use borrow.Author.Tests.{le-leb, lt-leb}
-use Rattle.format.specs.Bytes.{allNumbers, isNumber, parts}
+use Rattle.format.specs.Bytes.{allNumbers, decimal, isNumber, parts}
 use Rattle.format.proofs.PartSteps.{all-last, all-later, all-not}
 use borrow.Author.Needs.{needs}
 use Rattle.format.proofs.fields.all_numbers.Statement.{statement}
@@ -16,6 +17,32 @@ Inv-loop s at₀ at = (at ≤ length s) × (allNumbers (parts s 44) ≡ allNumbe
 
 abbrev μ-loop : tie.MeasureT-loop
 μ-loop s at₀ at = length s - at
+
+-- ---- the places of the body, and what is read there
+
+abbrev find-at : tie.After-decimal Inv-loop μ-loop → tie.After-find Inv-loop μ-loop
+find-at c = c .before .before
+
+abbrev loop-at : tie.After-decimal Inv-loop μ-loop → tie.At-loop Inv-loop μ-loop
+loop-at c = find-at c .before
+
+abbrev bytes : tie.After-decimal Inv-loop μ-loop → List ℕ
+bytes c = loop-at c .before .before .args .s .now
+
+-- the part between two commas
+abbrev between : tie.After-decimal Inv-loop μ-loop → List ℕ
+between c = take (find-at c .find .result - loop-at c .loop .at) (drop (loop-at c .loop .at) (bytes c))
+
+told : (c : tie.After-decimal Inv-loop μ-loop) → c .decimal .result ≡ decimal (between c)
+told c = c .decimal .ensures
+
+number : (c : tie.After-decimal Inv-loop μ-loop) → c .decimal .result ≤ 65535 → isNumber (between c) ≡ true
+number c h = le-leb _ _ (rw (told c) at h)
+
+no-number : (c : tie.After-decimal Inv-loop μ-loop) → 65535 < c .decimal .result → isNumber (between c) ≡ false
+no-number c h = lt-leb _ _ (rw (told c) at h)
+
+-- ---- the loop
 
 loop-holds : tie.Need-loop-holds Inv-loop μ-loop
 loop-holds c = (search needs, refl)
@@ -38,20 +65,14 @@ decimal-requires c κs = search needs
 returns : tie.Need-returns Inv-loop μ-loop
 returns c =
     let d = c .before in
-    let f = d .before .before in
-    let l = f .before .loop in
-    let s = f .before .before .before .args .s .now in
-    let k : isNumber (take (f .find .result - l .at) (drop (l .at) s)) ≡ false = lt-leb _ _ (rw (d .decimal .ensures) at (c .if1 .taken)) in
-    sym (l .inv .1 ∙ all-not s (l .at) (f .find .result) (f .find .ensures .0) (f .find .ensures .1) k)
+    let f = find-at d .find in
+    sym (loop-at d .loop .inv .1 ∙ all-not (bytes d) (loop-at d .loop .at) (f .result) (f .ensures .0) (f .ensures .1) (no-number d (c .if1 .taken)))
 
 returns-2 : tie.Need-returns-2 Inv-loop μ-loop
 returns-2 c =
     let d = c .before .before in
-    let f = d .before .before in
-    let l = f .before .loop in
-    let s = f .before .before .before .args .s .now in
-    let k : isNumber (take (f .find .result - l .at) (drop (l .at) s)) ≡ true = le-leb _ _ (rw (d .decimal .ensures) at (c .before .if1 .left)) in
-    sym (l .inv .1 ∙ all-last s (l .at) (f .find .result) (f .find .ensures .0) (f .find .ensures .1) k (c .if2 .taken))
+    let f = find-at d .find in
+    sym (loop-at d .loop .inv .1 ∙ all-last (bytes d) (loop-at d .loop .at) (f .result) (f .ensures .0) (f .ensures .1) (number d (c .before .if1 .left)) (c .if2 .taken))
 
 add-at : tie.Need-add-at Inv-loop μ-loop
 add-at c = search needs
@@ -62,12 +83,9 @@ loop-less c = search needs
 loop-again : tie.Need-loop-again Inv-loop μ-loop
 loop-again c =
     let d = c .before .before in
-    let f = d .before .before in
-    let l = f .before .loop in
-    let s = f .before .before .before .args .s .now in
-    let h : f .find .result < length s = omega arith in
-    let k : isNumber (take (f .find .result - l .at) (drop (l .at) s)) ≡ true = le-leb _ _ (rw (d .decimal .ensures) at (c .before .if1 .left)) in
-    (omega arith, l .inv .1 ∙ all-later s (l .at) (f .find .result) (f .find .ensures .0) (f .find .ensures .1) k h)
+    let f = find-at d .find in
+    let h : f .result < length (bytes d) = omega arith in
+    (omega arith, loop-at d .loop .inv .1 ∙ all-later (bytes d) (loop-at d .loop .at) (f .result) (f .ensures .0) (f .ensures .1) (number d (c .before .if1 .left)) h)
 
 pub all-numbers-spec : {M : Type 1} → statement M
 all-numbers-spec =

@@ -4,7 +4,8 @@ use mathlib.Core.List.{List, map}
 use mathlib.Core.Path.{sym, _∙_, ap}
 use lib.ListN.{length, length-map}
 use Rattle.pattern.specs.Patterns.{padded}
-use Rattle.format.specs.Bytes.{field, parts, value}
+use Rattle.format.specs.Bytes.{field, value}
+use Rattle.format.specs.Words.{marked, wordParts}
 use borrow.Author.Needs.{needs}
 use Rattle.format.proofs.values.slot_of.Statement.{statement}
 use Rattle.format.proofs.values.slot_of.Tie as tie
@@ -12,11 +13,11 @@ use Rattle.format.proofs.values.slot_of.Tie as tie
 part-requires : tie.Need-part-requires
 part-requires c κs = search needs
 
-words-of-requires : tie.Need-words-of-requires
-words-of-requires c κs = search needs
+first-words-requires : tie.Need-first-words-requires
+first-words-requires c κs = search needs
 
-count-requires : tie.Need-count-requires
-count-requires c κs = search needs
+count-words-requires : tie.Need-count-words-requires
+count-words-requires c κs = search needs
 
 part-requires-2 : tie.Need-part-requires-2
 part-requires-2 c κs = search needs
@@ -30,19 +31,23 @@ part-requires-3 c κs = search needs
 value-requires-2 : tie.Need-value-requires-2
 value-requires-2 c κs = search needs
 
+marked-requires : tie.Need-marked-requires
+marked-requires c κs = search needs
+
 returns : tie.Need-returns
 returns c =
-    let high = c in
+    let high = c .before in
     let low = high .before .before in
     let number = low .before .before in
     let list = number .before in
     let w = list .before .part .ensures in
     let a = list .before .before .before .args in
     simp (
-      list .words-of .ensures ∙ ap (λ (l : List ℕ). padded (map value (parts l 44))) w,
-      number .count .ensures ∙ ap (λ (l : List ℕ). length (parts l 44)) w ∙ sym (length-map (parts (field (a .s .now) (a .c .words)) 44) value),
+      list .first-words .ensures ∙ ap (λ (l : List ℕ). padded (map value (wordParts l))) w,
+      number .count-words .ensures ∙ ap (λ (l : List ℕ). length (wordParts l)) w ∙ sym (length-map (wordParts (field (a .s .now) (a .c .words))) value),
       low .value .ensures ∙ ap value (low .before .part2 .ensures),
       high .value2 .ensures ∙ ap value (high .before .part3 .ensures),
+      c .marked .ensures ∙ ap marked w,
     )
 
 pub slot-of-spec : {M : Type 1} → statement M
@@ -50,10 +55,11 @@ slot-of-spec =
     tie.close
     (tie.spec
     part-requires
-    words-of-requires
-    count-requires
+    first-words-requires
+    count-words-requires
     part-requires-2
     value-requires
     part-requires-3
     value-requires-2
+    marked-requires
     returns)

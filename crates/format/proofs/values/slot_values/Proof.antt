@@ -1,9 +1,10 @@
--- `format::values::slot_values` meets its contract: `count`, `decimal` and `all_numbers` ensure what each test asks.
+-- `format::values::slot_values` meets its contract: `count`, `decimal` and `all_words` ensure what each test asks.
 use Prim.Native.Nat.{ℕ}
 use mathlib.Core.List.{List}
 use mathlib.Core.Path.{_∙_, ap}
 use borrow.Author.Tests.{eq-eqb, le-leb, lt-leb, ne-eqb}
-use Rattle.format.specs.Bytes.{allNumbers, decimal, parts}
+use Rattle.format.specs.Bytes.{allNumbers, decimal}
+use Rattle.format.specs.Words.{wordParts}
 use Rattle.format.specs.Patterns.{slotValues}
 use borrow.Author.Needs.{needs}
 use Rattle.format.proofs.values.slot_values.Statement.{statement}
@@ -49,8 +50,8 @@ returns-3 c =
 part-requires-3 : tie.Need-part-requires-3
 part-requires-3 c κs = search needs
 
-all-numbers-requires : tie.Need-all-numbers-requires
-all-numbers-requires c κs = search needs
+all-words-requires : tie.Need-all-words-requires
+all-words-requires c κs = search needs
 
 returns-4 : tie.Need-returns-4
 unfolding slotValues
@@ -60,7 +61,7 @@ returns-4 c =
     let q = d .before .before in
     let a = d .decimal .ensures ∙ ap decimal (d .before .part .ensures) in
     let b = e .decimal2 .ensures ∙ ap decimal (e .before .part2 .ensures) in
-    let w = c .all-numbers .ensures ∙ ap (λ (l : List ℕ). allNumbers (parts l 44)) (c .before .part3 .ensures) in
+    let w = c .all-words .ensures ∙ ap (λ (l : List ℕ). allNumbers (wordParts l)) (c .before .part3 .ensures) in
     simp (← q .before .count .ensures, eq-eqb _ _ (q .if1 .left), ← a, le-leb _ _ (e .before .before .if2 .left), ← b, le-leb _ _ (c .before .before .if3 .left), ← w)
 
 pub slot-values-spec : {M : Type 1} → statement M
@@ -76,5 +77,5 @@ slot-values-spec =
     decimal-requires-2
     returns-3
     part-requires-3
-    all-numbers-requires
+    all-words-requires
     returns-4)

@@ -137,7 +137,7 @@ returns c = λ w.
     let a = start c .args in
     let s = w .laid .slot (a .j) (start c .pre .slot) in
     let k = next-at c .next .ensures .inside in
-    let eleven : 11 * a .j + 11 - 11 * a .j ≡ 11 = omega arith in
+    let twelve : 12 * a .j + 12 - 12 * a .j ≡ 12 = omega arith in
     visited (prior-at c .prior .ensures) (next-at c .next .ensures)
     (own-at c .widen .ensures .0)
     (behind-at c .widen2 .ensures .0)
@@ -147,7 +147,7 @@ returns c = λ w.
     (least-at c .widen6 .ensures .0)
     (most-at c .widen7 .ensures .0)
     (need-at c .need .ensures)
-    (c .first .ensures _ (laid-numbers s eleven))
+    (c .first .ensures _ (laid-numbers s twelve))
 
 pub visit-spec : {M : Type 1} → statement M
 visit-spec =

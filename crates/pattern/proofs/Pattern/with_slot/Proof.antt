@@ -35,8 +35,8 @@ mul-slots c = search needs
 array-set-from-slots : tie.Need-array-set-from-slots
 array-set-from-slots c = search needs
 
-add-t13 : tie.Need-add-t13
-add-t13 c = search needs
+add-t14 : tie.Need-add-t14
+add-t14 c = search needs
 
 returns-3 : tie.Need-returns-3
 unfolding extended
@@ -55,5 +55,5 @@ with-slot-spec =
     enum-told
     mul-slots
     array-set-from-slots
-    add-t13
+    add-t14
     returns-3)

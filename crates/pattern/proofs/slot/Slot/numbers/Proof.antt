@@ -6,47 +6,55 @@ use borrow.Author.Needs.{needs}
 use Rattle.pattern.proofs.slot.Slot.numbers.Statement.{statement}
 use Rattle.pattern.proofs.slot.Slot.numbers.Tie as tie
 
+mark-number-requires : tie.Need-mark-number-requires
+mark-number-requires c κs = search needs
+
 stated-requires : tie.Need-stated-requires
 stated-requires c κs = search needs
 
-array-read-t6 : tie.Need-array-read-t6
-array-read-t6 c = search needs
+array-read-t7 : tie.Need-array-read-t7
+array-read-t7 c = search needs
 
-array-read-t9 : tie.Need-array-read-t9
-array-read-t9 c = search needs
+array-read-t10 : tie.Need-array-read-t10
+array-read-t10 c = search needs
 
-array-read-t12 : tie.Need-array-read-t12
-array-read-t12 c = search needs
+array-read-t13 : tie.Need-array-read-t13
+array-read-t13 c = search needs
 
-array-read-t15 : tie.Need-array-read-t15
-array-read-t15 c = search needs
+array-read-t16 : tie.Need-array-read-t16
+array-read-t16 c = search needs
 
-array-read-t18 : tie.Need-array-read-t18
-array-read-t18 c = search needs
+array-read-t19 : tie.Need-array-read-t19
+array-read-t19 c = search needs
 
-array-read-t21 : tie.Need-array-read-t21
-array-read-t21 c = search needs
+array-read-t22 : tie.Need-array-read-t22
+array-read-t22 c = search needs
 
-array-read-t24 : tie.Need-array-read-t24
-array-read-t24 c = search needs
+array-read-t25 : tie.Need-array-read-t25
+array-read-t25 c = search needs
 
-array-read-t27 : tie.Need-array-read-t27
-array-read-t27 c = search needs
+array-read-t28 : tie.Need-array-read-t28
+array-read-t28 c = search needs
 
 returns : tie.Need-returns
-returns c = let w = c .before .before .args .self .words in let e : length w ≡ 8 = search needs in record { is = rw (eight-entries w e, c .stated .ensures); eight = e }
+returns c =
+    let mark = c .before in
+    let w = mark .before .before .args .self .words in
+    let e : length w ≡ 8 = search needs in
+    record { is = rw (eight-entries w e, mark .mark-number .ensures, c .stated .ensures); eight = e }
 
 pub numbers-spec : {M : Type 1} → statement M
 numbers-spec =
     tie.close
     (tie.spec
+    mark-number-requires
     stated-requires
-    array-read-t6
-    array-read-t9
-    array-read-t12
-    array-read-t15
-    array-read-t18
-    array-read-t21
-    array-read-t24
-    array-read-t27
+    array-read-t7
+    array-read-t10
+    array-read-t13
+    array-read-t16
+    array-read-t19
+    array-read-t22
+    array-read-t25
+    array-read-t28
     returns)

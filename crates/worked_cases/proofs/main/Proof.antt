@@ -1,14 +1,14 @@
--- `sentence_cases::main` is safe and ends: there are fourteen texts.
+-- `worked_cases::main` is safe and ends: there are twenty-two texts.
 use borrow.Author.Needs.{needs}
 use Prim.Native.Nat.{_≤_, _-_}
-use Rattle.sentence_cases.proofs.main.Statement.{statement}
-use Rattle.sentence_cases.proofs.main.Tie as tie
+use Rattle.worked_cases.proofs.main.Statement.{statement}
+use Rattle.worked_cases.proofs.main.Tie as tie
 
 abbrev Inv-loop : tie.InvT-loop
-Inv-loop k₀ k = k ≤ 14
+Inv-loop k₀ k = k ≤ 22
 
 abbrev μ-loop : tie.MeasureT-loop
-μ-loop k₀ k = 14 - k
+μ-loop k₀ k = 22 - k
 
 loop-holds : tie.Need-loop-holds Inv-loop μ-loop
 loop-holds c = search needs

@@ -1,8 +1,8 @@
--- `sentence_cases::show_rows` is safe and ends. What it writes is no part of any contract.
+-- `worked_cases::show_rows` is safe and ends. What it writes is no part of any contract.
 use borrow.Author.Needs.{needs}
 use Prim.Native.Nat.{_≤_, _-_}
-use Rattle.sentence_cases.proofs.show_rows.Statement.{statement}
-use Rattle.sentence_cases.proofs.show_rows.Tie as tie
+use Rattle.worked_cases.proofs.show_rows.Statement.{statement}
+use Rattle.worked_cases.proofs.show_rows.Tie as tie
 
 abbrev Inv-loop : tie.InvT-loop
 Inv-loop list rows m i₀ r₀ t6 i r = r ≤ rows

@@ -1,5 +1,5 @@
-// Runs texts with sentence ends through the library: of each the count, the tally, the front list, the back list, all occurrences, and
-// whether one row is an occurrence.
+// Runs texts with sentence ends and texts for excluding slots through the library: of each the count, the tally, the front list, the back
+// list, all occurrences, and whether one row is an occurrence.
 mod cases;
 mod show;
 mod tables;
@@ -98,7 +98,7 @@ fn show_row(pattern: Pattern, text: &[u16], row: &[u16]) {
 
 // Text number k, counted from 0.
 fn show_text(k: usize)
-    requires { ⌜ k < 14 ⌝ }
+    requires { ⌜ k < 22 ⌝ }
 {
     let case = case_of(k);
     let pattern = case.pattern;
@@ -118,7 +118,7 @@ fn show_text(k: usize)
 
 // Runs the texts.
 fn main() {
-    for k in 0..14 {
+    for k in 0..22 {
         show_text(k);
     }
 }

@@ -1,8 +1,8 @@
--- `sentence_cases::show::show_list` is safe and ends. What it writes is no part of any contract.
+-- `worked_cases::show::show_list` is safe and ends. What it writes is no part of any contract.
 use borrow.Author.Needs.{needs}
 use Prim.Native.Nat.{_≤_, _-_}
-use Rattle.sentence_cases.proofs.show.show_list.Statement.{statement}
-use Rattle.sentence_cases.proofs.show.show_list.Tie as tie
+use Rattle.worked_cases.proofs.show.show_list.Statement.{statement}
+use Rattle.worked_cases.proofs.show.show_list.Tie as tie
 
 abbrev Inv-loop : tie.InvT-loop
 Inv-loop list i₀ t3 i-end i = i ≤ i-end

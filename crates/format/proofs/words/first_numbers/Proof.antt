@@ -1,4 +1,4 @@
--- `format::values::words_of` meets its contract. The invariant: the first i words stand over eight zeros.
+-- `format::words::first_numbers` meets its contract. The invariant: the first i words stand over eight zeros.
 use Prim.Native.Nat.{ℕ, _-_, _≤_, _<_}
 use native.Mathlib.Omega.{arith}
 use mathlib.Core.List.{List, map}
@@ -9,8 +9,8 @@ use Rattle.format.specs.Bytes.{parts, value}
 use Rattle.format.proofs.LineSteps.{pasted-more}
 use Rattle.format.proofs.SlotSteps.{eight, eight-at, eight-padded, word-at}
 use borrow.Author.Needs.{needs}
-use Rattle.format.proofs.values.words_of.Statement.{statement}
-use Rattle.format.proofs.values.words_of.Tie as tie
+use Rattle.format.proofs.words.first_numbers.Statement.{statement}
+use Rattle.format.proofs.words.first_numbers.Tie as tie
 
 abbrev Inv-loop : tie.InvT-loop
 Inv-loop s entries₀ i₀ entries i = (i ≤ 8) × (entries ≡ paste (replicate 8 0) 0 (eight (map value (parts s 44))) i)
@@ -55,8 +55,8 @@ returns c =
     let e : l .i ≡ 8 = omega arith in
     l .inv .1 ∙ ap (λ (n : ℕ). paste (replicate 8 0) 0 (eight ws) n) e ∙ eight-padded ws
 
-pub words-of-spec : {M : Type 1} → statement M
-words-of-spec =
+pub first-numbers-spec : {M : Type 1} → statement M
+first-numbers-spec =
     tie.close
     (tie.spec
     Inv-loop
