@@ -10,7 +10,6 @@ use lib.Dec.{eqb}
 use lib.ListN.{length, getD, take, drop}
 use lib.Seq.{take-all}
 use borrow.Author.Tests.{le-ltb, eqb-true, eqb-false}
-use Rattle.basics.specs.Choice.{pick}
 use Rattle.pattern.specs.declared.slot.Slot.{Slot}
 use Rattle.pattern.specs.Patterns.{member, stated, lists, taken, takes, withGap}
 use Rattle.pattern.specs.Laws.Members.{member-true, mem-member, member-false}
