@@ -21,6 +21,7 @@ extern "C" {
         words: *mut u16,
         word_count: usize,
     ) -> ReadBoth;
+    fn bedbloomer_write_pattern(pattern: Pattern, out: *mut u8, out_bytes: usize) -> Answer;
     fn bedbloomer_line(bytes: *const u8, byte_count: usize, at: usize) -> LineEnds;
     fn bedbloomer_pattern_of(least: u16, most: u16) -> Pattern;
     fn bedbloomer_with_slot(
@@ -125,6 +126,12 @@ pub fn read_input(pattern: &[u8], text: &[u8], words: &mut [u16]) -> ReadBoth {
     let (text, text_bytes) = (text.as_ptr(), text.len());
     // SAFETY: each pointer and its length are one slice's; only `words` is written, and it is borrowed mutably.
     unsafe { bedbloomer_read_input(pattern, pattern_bytes, text, text_bytes, words.as_mut_ptr(), words.len()) }
+}
+
+/// Writes the pattern's file to the start of `out`: how many bytes.
+pub fn write_pattern(pattern: &Pattern, out: &mut [u8]) -> Answer {
+    // SAFETY: the pointer and the length are one slice's, which is borrowed mutably; the pattern goes by value.
+    unsafe { bedbloomer_write_pattern(*pattern, out.as_mut_ptr(), out.len()) }
 }
 
 /// The line that begins at a byte: where it ends, and where the next begins.

@@ -2,7 +2,7 @@
 
 use std::mem::{offset_of, size_of};
 
-/// A slot: the first `count` of its words, the gap before it, and whether it takes any word but these.
+/// A slot: the first `count` of its words, which rise, the gap before it, and whether it takes any word but these.
 #[repr(C)]
 #[derive(Clone, Copy, Debug, Default, PartialEq, Eq)]
 pub struct Slot {

@@ -9,6 +9,7 @@ use compare::brute::report;
 use compare::cases::examples::EXAMPLES;
 use compare::cases::files::{damage, input, text_file, usual_pattern_file};
 use compare::cases::inputs::inputs;
+use compare::cases::orders::rearranged;
 use compare::cases::random::{any_pattern, text_with_stops, Kind, STOPS};
 use compare::rng::Rng;
 
@@ -53,13 +54,14 @@ fn inputs_at_the_limits() {
     inputs().iter().for_each(|input| compare(input));
 }
 
-/// Patterns of plain and excluding slots, texts with many, few and no sentence ends.
+/// Patterns of plain and excluding slots, their words in any order, texts with many, few and no sentence ends.
 #[test]
 fn cut_texts() {
     let mut rng = Rng::new(89);
     let kind = Kind { slots: (1, 5), highest_word: 2, most_words: 2, widest_gap: 5 };
     for round in 0..150 {
-        let pattern = usual_pattern_file(&any_pattern(&mut rng, &kind));
+        let rising = any_pattern(&mut rng, &kind);
+        let pattern = usual_pattern_file(&rearranged(&mut rng, &rising));
         let words = rng.within(0, 200);
         let text = text_with_stops(&mut rng, words, 2, STOPS[round % STOPS.len()]);
         compare(&input(&pattern, &text_file(&text)));

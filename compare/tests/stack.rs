@@ -5,6 +5,7 @@ use std::thread::Builder;
 
 use compare::brute::report;
 use compare::cases::files::{input, text_file, usual_pattern_file};
+use compare::cases::written::{longest, MOST_BYTES};
 use compare::cases::Words::{But, Only};
 use compare::cases::{alike, pattern, ANY_SPAN};
 use compare::ffi;
@@ -62,6 +63,14 @@ fn the_lists_need_little_stack() {
             assert_eq!((answer.number, answer.value), (0, COUNT as u64));
         }
     }
+}
+
+#[test]
+fn a_written_pattern_needs_little_stack() {
+    let (span, slots) = longest();
+    let pattern = pattern(span, &slots);
+    let answer = on_small_stack(move || ffi::write_pattern(&pattern, &mut [0; MOST_BYTES]));
+    assert_eq!((answer.number, answer.value), (0, MOST_BYTES as u64));
 }
 
 #[test]

@@ -1,5 +1,8 @@
 //! The limits of patterns and texts, tested in their order, and the making of patterns.
 
+use std::collections::BTreeSet;
+
+use super::occurrences::slots;
 use super::refusal::{refuse, Refusal};
 use crate::layout::{Made, Pattern, Slot};
 
@@ -17,7 +20,16 @@ pub fn test_pattern(pattern: &Pattern) -> Result<(), Refusal> {
     for (index, slot) in pattern.slots.iter().take(pattern.count).enumerate() {
         test_slot(index + 1, slot.low, slot.high, slot.excluding, slot.words.get(..slot.count))?;
     }
-    test_span(pattern.least, pattern.most)
+    test_span(pattern.least, pattern.most)?;
+    match slots(pattern).iter().position(|slot| !rises(&slot.words[..slot.count])) {
+        Some(index) => refuse(16, index + 1),
+        None => Ok(()),
+    }
+}
+
+/// Whether every word is greater than all before it.
+fn rises(words: &[u16]) -> bool {
+    (0..words.len()).all(|at| words[..at].iter().all(|&earlier| earlier < words[at]))
 }
 
 /// Refuses a number of slots other than 1 to 16.
@@ -58,7 +70,7 @@ pub fn pattern_of(least: u16, most: u16) -> Pattern {
     Pattern { slots: [Slot::default(); 16], count: 0, least, most }
 }
 
-/// The pattern with one slot more, or as it was beside a refusal.
+/// The pattern with one slot more, or as it was beside a refusal; the other slots are not looked at.
 pub fn with_slot(pattern: &Pattern, low: u16, high: u16, excluding: bool, words: &[u16]) -> Made {
     let tested = match pattern.count {
         0..=15 => test_slot(pattern.count + 1, low, high, excluding, Some(words)),
@@ -72,10 +84,11 @@ pub fn with_slot(pattern: &Pattern, low: u16, high: u16, excluding: bool, words:
     made
 }
 
-/// Puts a slot behind the pattern's last.
+/// Puts a slot behind the pattern's last, its words in rising order, each once.
 pub fn push_slot(pattern: &mut Pattern, low: u16, high: u16, excluding: bool, words: &[u16]) {
-    let mut slot = Slot { words: [0; 8], count: words.len(), low, high, excluding };
-    slot.words[..words.len()].copy_from_slice(words);
+    let listed: BTreeSet<u16> = words.iter().copied().collect();
+    let mut slot = Slot { words: [0; 8], count: listed.len(), low, high, excluding };
+    slot.words.iter_mut().zip(listed).for_each(|(entry, word)| *entry = word);
     pattern.slots[pattern.count] = slot;
     pattern.count += 1;
 }

@@ -16,8 +16,11 @@ mod rows;
 mod self_tests;
 #[cfg(test)]
 mod self_tests_excluding;
+#[cfg(test)]
+mod self_tests_written;
 mod ways;
 mod windowed;
+mod written;
 
 pub use calls::{check, check_pattern, Brute};
 pub use cursors::rewind;
@@ -30,3 +33,4 @@ pub use occurrences::is_occurrence;
 pub use report::{count, report};
 pub use rows::{sorted_by_slot, Row, Searcher};
 pub use windowed::Windowed;
+pub use written::{write_pattern, written};

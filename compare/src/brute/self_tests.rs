@@ -6,6 +6,7 @@ use crate::cases::examples::EXAMPLES;
 use crate::cases::files::{text_file, usual_pattern_file};
 use crate::cases::inputs::sevens;
 use crate::cases::lines::small_files;
+use crate::cases::orders::canonical;
 use crate::cases::random::{any_marks, any_pattern, any_text, Kind};
 use crate::cases::sentences::{cut_at, joined, sentences, without_stops};
 use crate::cases::small::{patterns, texts, tuples};
@@ -27,7 +28,7 @@ fn assert_rows(named: Option<Rows>, rows: &[Row]) {
 #[test]
 fn stated_rows() {
     for case in worked_texts() {
-        let pattern = pattern(case.span, case.slots);
+        let pattern = canonical(&pattern(case.span, case.slots));
         let listed = Brute::enumerated(&pattern, case.text);
         let sieved = Brute::windowed(&pattern, case.text);
         assert_rows(case.all, &listed.searcher().unwrap().all());

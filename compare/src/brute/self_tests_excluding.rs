@@ -1,8 +1,8 @@
 //! Excluding slots in the brute force: what they take, written out by hand, their limits and their spellings.
 
-use super::limits::push_slot;
 use super::occurrences::takes;
 use super::*;
+use crate::cases::orders::canonical;
 use crate::cases::random::{any_pattern, any_text, Kind};
 use crate::cases::small::texts;
 use crate::cases::turned::turned;
@@ -11,9 +11,9 @@ use crate::cases::{pattern, ANY_SPAN};
 use crate::layout::{Pattern, Slot};
 use crate::rng::Rng;
 
-/// The pattern with this slot alone.
+/// The pattern with this slot alone, its words put in order.
 fn alone(words: Words) -> Pattern {
-    pattern(ANY_SPAN, &[(0, 0, words)])
+    canonical(&pattern(ANY_SPAN, &[(0, 0, words)]))
 }
 
 /// Slots, words that each takes, and words that it does not.
@@ -139,14 +139,11 @@ fn good_spellings() {
         ("!", But(&[])),
         ("!1", But(&[1])),
         ("!65535", But(&[65_535])),
-        ("!7,7", But(&[7, 7])),
+        ("!7,7", But(&[7])),
         ("!1,2,3,4,5,6,7,8", But(&[1, 2, 3, 4, 5, 6, 7, 8])),
     ];
     for (field, words) in fields {
-        let (excluding, words) = words.parts();
-        let mut expected = pattern_of(1, 9);
-        push_slot(&mut expected, 2, 3, excluding, words);
-        assert_eq!(read(field), Ok(expected.slots[0]));
+        assert_eq!(read(field), Ok(pattern(ANY_SPAN, &[(2, 3, words)]).slots[0]));
     }
 }
 
@@ -194,7 +191,7 @@ fn marks_elsewhere() {
 /// A slot and its other form have the same occurrences: by hand for small texts, at random for longer ones.
 #[test]
 fn other_forms() {
-    let forms = [(But(&[1]), Only(&[2, 3])), (But(&[]), Only(&[3, 2, 1])), (But(&[1, 2, 3]), Only(&[4]))];
+    let forms = [(But(&[1]), Only(&[2, 3])), (But(&[]), Only(&[1, 2, 3])), (But(&[1, 2, 3]), Only(&[4]))];
     for (excluding, plain) in forms {
         let [excluding, plain] = [excluding, plain].map(|words| pattern(ANY_SPAN, &[(0, 0, words), (0, 1, words)]));
         for text in texts(&[0, 1, 2, 3], 5) {

@@ -128,7 +128,7 @@ pub static EXCLUDING_TEXTS: [Worked; 26] = [
     // The same at the first and at the last slot.
     listed(&[A, B], &[(0, 0, But(&[A])), (0, 0, Only(&[B]))], &[], [&[], &[]], &[&[1, 2]]),
     listed(&[A, B], &[(0, 0, Only(&[A])), (0, 0, But(&[B]))], &[], [&[], &[]], &[&[1, 2]]),
-    // Eight words excluded, a word excluded three times, and the greatest word excluded.
+    // Eight words excluded, a word excluded three times where it is written down, and the greatest word excluded.
     listed(
         &[1, 2, 3, 4, 5, 6, 7, 8, 9, 0, 8, 10],
         &[(0, 0, But(&[1, 2, 3, 4, 5, 6, 7, 8]))],

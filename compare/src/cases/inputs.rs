@@ -128,7 +128,7 @@ fn padded(input: &[u8], bytes: usize) -> Vec<u8> {
 /// Inputs that are refused, or parted in odd ways.
 fn odd() -> Vec<Vec<u8>> {
     let good = b"least most\n1 20000\nlow high words\n0 0 7\n";
-    let tails: [&[u8]; 24] = [
+    let tails: [&[u8]; 31] = [
         b"",
         b"\n",
         b"\nword\n",
@@ -153,6 +153,13 @@ fn odd() -> Vec<Vec<u8>> {
         b"0 0 !1,2,3,4,5,6,7,8,9\n\nword\n7\n9\n",
         b"0 0 7!\n\nword\n7\n",
         b"0 0 7\n\nword\n!7\n",
+        b"0 0 9,8,7\n\nword\n7\n8\n0\n7\n9\n",
+        b"0 0 8,8,7,8\n\nword\n7\n8\n7\n",
+        b"0 1 !9,7,9\n\nword\n7\n9\n8\n",
+        b"0 0 7,7,7,7,7,7,7,7\n\nword\n7\n7\n",
+        b"0 0 7,7,7,7,7,7,7,7,7\n\nword\n7\n7\n",
+        b"0 0 !8,8,8,8,8,8,8,8,8\n\nword\n7\n7\n",
+        b"0 0 9,8,7,0\n\nword\n7\n7\n",
     ];
     let mut inputs: Vec<Vec<u8>> = tails.iter().map(|tail| [good, *tail].concat()).collect();
     let whole: [&[u8]; 10] = [

@@ -5,12 +5,14 @@ pub mod excluding;
 pub mod files;
 pub mod inputs;
 pub mod lines;
+pub mod orders;
 pub mod random;
 pub mod sentences;
 pub mod small;
 pub mod tallies;
 pub mod turned;
 pub mod worked;
+pub mod written;
 
 use crate::layout::{Pattern, Slot};
 
@@ -45,7 +47,7 @@ impl<'a> Words<'a> {
 /// A slot as it is written down: its gap, low and high, and its words.
 pub type Written<'a> = (u16, u16, Words<'a>);
 
-/// The pattern with these span limits and slots, its other entries 0.
+/// The pattern with these span limits and slots, their words as they are written down, its other entries 0.
 pub fn pattern((least, most): (u16, u16), slots: &[Written]) -> Pattern {
     let mut pattern = Pattern { slots: [Slot::default(); 16], count: slots.len(), least, most };
     for (slot, &(low, high, words)) in pattern.slots.iter_mut().zip(slots) {

@@ -1,5 +1,6 @@
 //! Patterns, texts, rows and marks at random.
 
+use super::orders::{disorder, in_order};
 use super::{pattern, Words, Written, ANY_SPAN};
 use crate::layout::{Cursors, Pattern, Slot};
 use crate::rng::Rng;
@@ -15,8 +16,8 @@ pub struct Kind {
 /// How often a slot of a pattern at random is excluding: once in so many slots, or never.
 const EXCLUDING: [Option<usize>; 4] = [Some(1), Some(2), Some(4), None];
 
-/// A pattern within the limits; all, many, few or none of its slots are excluding, and its entries past the stated
-/// numbers are at random.
+/// A pattern that is accepted; all, many, few or none of its slots are excluding, and its entries past the stated numbers
+/// are at random.
 pub fn any_pattern(rng: &mut Rng, kind: &Kind) -> Pattern {
     let every = rng.pick(&EXCLUDING);
     let mut slots = Vec::new();
@@ -34,13 +35,15 @@ pub fn any_pattern(rng: &mut Rng, kind: &Kind) -> Pattern {
     made
 }
 
-/// Words for a plain slot.
+/// Words for a plain slot, in rising order.
 fn any_words(rng: &mut Rng, kind: &Kind) -> Vec<u16> {
     let count = rng.within(1, kind.most_words);
-    (0..count).map(|_| rng.word(1, kind.highest_word)).collect()
+    let words: Vec<u16> = (0..count).map(|_| rng.word(1, kind.highest_word)).collect();
+    filled_up(rng, &words, 0)
 }
 
-/// Words for an excluding slot, often none and now and then 8; they leave it one word at least that plain slots take.
+/// Words for an excluding slot, in rising order, often none and now and then 8; they leave it one word at least that
+/// plain slots take.
 fn any_excluded(rng: &mut Rng, kind: &Kind) -> Vec<u16> {
     let count = match rng.within(1, 8) {
         1 | 2 => 0,
@@ -50,7 +53,18 @@ fn any_excluded(rng: &mut Rng, kind: &Kind) -> Vec<u16> {
     let left = rng.word(1, kind.highest_word);
     let next = left % 65_535 + 1;
     let listed = |word: u16| if word == left { next } else { word };
-    (0..count).map(|_| listed(rng.word(1, kind.highest_word))).collect()
+    let words: Vec<u16> = (0..count).map(|_| listed(rng.word(1, kind.highest_word))).collect();
+    filled_up(rng, &words, left)
+}
+
+/// The words in rising order, each once; if eight were drawn, then with as many others as make up eight, but not `left`.
+fn filled_up(rng: &mut Rng, drawn: &[u16], left: u16) -> Vec<u16> {
+    let mut words = in_order(drawn);
+    while drawn.len() == 8 && words.len() < 8 {
+        words.extend(Some(rng.word(1, 65_535)).filter(|&word| word != left));
+        words = in_order(&words);
+    }
+    words
 }
 
 /// Span limits that some rows keep and others break.
@@ -125,12 +139,13 @@ fn list_zero(rng: &mut Rng, slot: &mut Slot) {
 pub fn break_pattern(rng: &mut Rng, pattern: &mut Pattern) {
     let slots = pattern.count.clamp(1, 16);
     let slot = &mut pattern.slots[rng.within(1, slots) - 1];
-    match rng.within(1, 8) {
+    match rng.within(1, 10) {
         1 => pattern.count = rng.pick(&[0, 17, 65_535, usize::MAX]),
         2 | 3 => slot.count = rng.pick(&WRONG_COUNTS[usize::from(slot.excluding)..]),
         4 | 5 => list_zero(rng, slot),
         6 => (slot.low, slot.high) = rng.pick(&[(1, 0), (64, 64), (0, 64), (65_535, 63), (0, 65_535)]),
         7 => pattern.slots[0].high = 1,
+        8 | 9 => disorder(rng, slot),
         _ => (pattern.least, pattern.most) = rng.pick(&[(0, 5), (0, 0), (6, 5), (1, 20_001), (1, 65_535)]),
     }
 }

@@ -143,6 +143,7 @@ impl<'a, S: Searcher> Both<'a, S> {
     pub fn every_call(&mut self, marks: &[u16], cursors: &Cursors, client: usize) {
         self.check();
         check_pattern(self.run, self.brute.pattern);
+        write_pattern(self.run, self.brute.pattern);
         self.numbers();
         self.row(marks);
         self.searches(marks);
@@ -172,6 +173,25 @@ pub fn check_pattern(run: &mut Run, pattern: &Pattern) {
     let (library, brute) = (ffi::check_pattern(pattern), brute::check_pattern(pattern));
     run.agree(&library, &brute, || format!("check_pattern\npattern: {pattern:?}"));
     run.call(Call::CheckPattern, library.number);
+}
+
+/// Compares what a pattern is written as, with lists of every interesting length lent.
+pub fn write_pattern(run: &mut Run, pattern: &Pattern) {
+    let bytes = brute::written(pattern).map_or(0, |file| file.len());
+    for room in [vec![0, bytes + 1, 2_000], rooms(bytes)].concat() {
+        write_pattern_in(run, pattern, room);
+    }
+}
+
+/// Compares what a pattern is written as, with so many bytes lent.
+pub fn write_pattern_in(run: &mut Run, pattern: &Pattern, room: usize) {
+    let (mut lent, mut expected) = (Lent::bytes(room), Lent::bytes(room));
+    let library = ffi::write_pattern(pattern, lent.part());
+    let brute = brute::write_pattern(pattern, expected.part());
+    let case = || format!("write_pattern with {room} bytes lent\npattern: {pattern:?}");
+    run.agree(&library, &brute, case);
+    run.agree(&lent, &expected, case);
+    run.call(Call::WritePattern, library.number);
 }
 
 /// Compares a new pattern with these span limits.

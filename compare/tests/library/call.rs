@@ -31,6 +31,7 @@ calls! {
     ReadPattern = "read_pattern",
     ReadText = "read_text",
     ReadInput = "read_input",
+    WritePattern = "write_pattern",
     Line = "line",
     PatternOf = "pattern_of",
     WithSlot = "with_slot",

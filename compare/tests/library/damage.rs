@@ -15,16 +15,16 @@ use crate::run::Run;
 /// Words lent to the text reader, more than a damaged file has.
 const ROOM: usize = 40;
 
-/// Slots of patterns whose files are damaged in every way: plain ones, and a mixture.
+/// Slots of patterns whose files are damaged in every way: plain ones, and a mixture, some words not in order.
 const DAMAGED: [&[Written]; 2] = [
     &[(0, 0, Only(&[7, 65_535])), (0, 10, Only(&[1, 10])), (1, 3, Only(&[2]))],
-    &[(0, 0, Only(&[7, 65_535])), (0, 10, But(&[1, 65_535])), (1, 3, But(&[]))],
+    &[(0, 0, Only(&[65_535, 7])), (0, 10, But(&[1, 65_535])), (1, 3, But(&[]))],
 ];
 
 /// Slots of patterns in whose files marks are put: plain ones, excluding ones, and mixtures; the last are refused.
 const MARKED: [&[Written]; 6] = [
     &[(0, 0, Only(&[7])), (0, 1, Only(&[12, 15]))],
-    &[(0, 0, But(&[7])), (0, 1, But(&[12, 15]))],
+    &[(0, 0, But(&[7])), (0, 1, But(&[15, 12]))],
     &[(0, 0, Only(&[7, 12])), (0, 1, But(&[1, 2, 3, 4, 5, 6, 8, 65_535])), (0, 0, But(&[]))],
     &[(0, 0, But(&[]))],
     &[(0, 0, But(&[])), (0, 63, But(&[])), (63, 63, But(&[]))],

@@ -9,7 +9,7 @@ use compare::cases::ANY_SPAN;
 use compare::layout::Pattern;
 use compare::rng::Rng;
 
-use crate::both::{check_pattern, Both};
+use crate::both::{check_pattern, write_pattern, Both};
 use crate::file_calls::lines;
 use crate::run::Run;
 
@@ -32,7 +32,7 @@ const SETS: usize = 300;
 pub fn run(run: &mut Run) {
     let mut rng = Rng::new(11);
     let sets = [Only(&[1]), Only(&[2]), Only(&[1, 2])];
-    let apart = [Only(&[1]), Only(&[2]), Only(&[3, 1])];
+    let apart = [Only(&[1]), Only(&[2]), Only(&[1, 3])];
     let but = [But(&[]), But(&[1]), But(&[1, 2])];
     let mixed = [Only(&[1]), But(&[1]), But(&[])];
     let wide = [(0, 1), (1, 2), (0, 2)];
@@ -58,6 +58,7 @@ pub fn run(run: &mut Run) {
         for pattern in &patterns {
             run.input();
             check_pattern(run, pattern);
+            write_pattern(run, pattern);
             for text in &texts {
                 compare(run, &mut rng, pattern, text);
             }

@@ -4,6 +4,7 @@ use compare::brute::pattern_of;
 use compare::cases::examples::EXAMPLES;
 use compare::cases::files::{damage, input, pattern_file, text_file, usual_pattern_file, SLOT_ORDERS, SPAN_ORDERS};
 use compare::cases::inputs::inputs;
+use compare::cases::orders::rearranged;
 use compare::cases::random::{any_pattern, any_text, break_pattern, text_with_stops, Kind, STOPS};
 use compare::rng::Rng;
 
@@ -14,7 +15,7 @@ use crate::run::Run;
 const HEAD: &str = "least most\n1 20000\nlow high words\n";
 
 /// Lines of slots, good and wrong in every way.
-const SLOTS: [&str; 14] = [
+const SLOTS: [&str; 20] = [
     "0 0 7\n",
     "",
     "0 0 7",
@@ -29,6 +30,12 @@ const SLOTS: [&str; 14] = [
     "0 0 !\n3 2 !\n",
     "0 0 !1,2,3,4,5,6,7,8,9\n",
     "0 0 !!\n",
+    "0 0 8,7,7\n0 1 !9,8\n",
+    "0 0 7,7,7,7,7,7,7,7\n",
+    "0 0 7,7,7,7,7,7,7,7,7\n",
+    "0 0 !8,8,8,8,8,8,8,8\n",
+    "0 0 !8,8,8,8,8,8,8,8,8\n",
+    "0 0 9,8,0,8\n",
 ];
 
 /// What the patterns in files are like.
@@ -53,11 +60,13 @@ pub fn run(run: &mut Run) {
     report_cut(run, b"");
 }
 
-/// Compares good files with their names in every order, and with lists of too few words.
+/// Compares good files with their names in every order, the words of half of them in any order, and with lists of too few
+/// words.
 fn good(run: &mut Run) {
     let mut rng = Rng::new(44);
-    for _ in 0..40 {
-        let pattern = any_pattern(&mut rng, &KIND);
+    for round in 0..40 {
+        let rising = any_pattern(&mut rng, &KIND);
+        let pattern = if round % 2 == 0 { rising } else { rearranged(&mut rng, &rising) };
         let words = rng.within(0, 30);
         let text = text_file(&any_text(&mut rng, words, 9));
         for span in SPAN_ORDERS {
@@ -139,8 +148,10 @@ fn slots_at_limit(run: &mut Run) {
     }
     for words in (1..=20).chain([255, 256, 257, 2_000]) {
         let joined = vec!["7"; words].join(",");
+        let falling = (1..=words).rev().map(|word| word.to_string()).collect::<Vec<_>>().join(",");
         for (low, high) in [("0", "0"), ("0", "1"), ("1", "0"), ("64", "64"), ("0", "065")] {
-            for field in [joined.clone(), format!("{joined},0"), format!("0,{joined}"), format!("{joined},")] {
+            let wrong = [format!("{joined},0"), format!("0,{joined}"), format!("{joined},"), format!("{falling},0")];
+            for field in [vec![joined.clone(), falling.clone()], wrong.to_vec()].concat() {
                 for mark in ["", "!"] {
                     let file = format!("{HEAD}0 0 7\n{low} {high} {mark}{field}\n").into_bytes();
                     run.input();
@@ -194,12 +205,13 @@ fn failures_of_both(run: &mut Run) {
     }
 }
 
-/// Compares texts of few different words, many, few or none of them sentence ends.
+/// Compares patterns with words in any order and texts of few different words, many, few or none of them sentence ends.
 fn cut_texts(run: &mut Run) {
     let mut rng = Rng::new(46);
     let kind = Kind { slots: (1, 4), highest_word: 2, most_words: 2, widest_gap: 4 };
     for round in 0..1_000 {
-        let file = usual_pattern_file(&any_pattern(&mut rng, &kind));
+        let pattern = any_pattern(&mut rng, &kind);
+        let file = usual_pattern_file(&rearranged(&mut rng, &pattern));
         let words = rng.within(0, 60);
         let text = text_file(&text_with_stops(&mut rng, words, 2, STOPS[round % STOPS.len()]));
         run.input();
@@ -212,7 +224,8 @@ fn cut_texts(run: &mut Run) {
 fn pairs_at_random(run: &mut Run) {
     let mut rng = Rng::new(45);
     for _ in 0..4_000 {
-        let mut stated = any_pattern(&mut rng, &KIND);
+        let rising = any_pattern(&mut rng, &KIND);
+        let mut stated = rearranged(&mut rng, &rising);
         for _ in 0..rng.pick(&[0, 0, 1, 2]) {
             break_pattern(&mut rng, &mut stated);
         }

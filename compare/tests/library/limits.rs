@@ -21,6 +21,14 @@ const COUNTS: [usize; 14] = [0, 1, 2, 8, 9, 15, 16, 17, 256, 65_535, 65_537, (1 
 /// The words of slots that take the 7, plain and excluding.
 const TAKING_SEVEN: [Words; 2] = [Only(&[7]), But(&[8])];
 
+/// Eight words of a slot, plain and excluding: rising, and as far as the third or the second word.
+const EIGHT_WORDS: [Words; 4] = [
+    Only(&[7, 8, 9, 10, 11, 256, 32_768, 65_535]),
+    But(&[8, 9, 10, 11, 12, 256, 32_768, 65_535]),
+    Only(&[7, 8, 9, 7, 1, 2, 3, 65_535]),
+    But(&[8, 9, 8, 1, 2, 3, 4, 65_535]),
+];
+
 /// A text with occurrences of the patterns below.
 const TEXT: [u16; 9] = [7, 7, 0, 7, 8, 7, 7, 9, 7];
 
@@ -59,8 +67,9 @@ fn patterns() -> Vec<Pattern> {
         for slots in [1, 3, 16] {
             let base = pattern(ANY_SPAN, &alike(words, slots, 0, 1));
             for at in [0, slots / 2, slots - 1] {
-                found.extend(with_words(&base, at, Only(&[7, 8, 9, 7, 1, 2, 3, 65_535])));
-                found.extend(with_words(&base, at, But(&[8, 9, 8, 1, 2, 3, 4, 65_535])));
+                for words in EIGHT_WORDS {
+                    found.extend(with_words(&base, at, words));
+                }
                 found.extend(with_gaps(&base, at));
             }
             found.extend(with_spans(&base));
@@ -122,10 +131,13 @@ fn new_patterns(run: &mut Run) {
         pattern.count = count;
         for words in 0..=10 {
             let zeros_last = [5, 5, 5, 5, 5, 5, 5, 0, 0, 0];
+            let (falling, mixed) = ([19, 18, 17, 16, 15, 14, 13, 12, 11, 10], [4, 9, 4, 300, 2, 9, 1, 300, 4, 8]);
             for (low, high) in [(0, 0), (0, 1), (63, 63), (63, 64), (1, 0)] {
                 run.input();
                 with_slot(run, &pattern, low, high, &[5; 10][..words]);
                 with_slot(run, &pattern, low, high, &zeros_last[10 - words..]);
+                with_slot(run, &pattern, low, high, &falling[..words]);
+                with_slot(run, &pattern, low, high, &mixed[..words]);
             }
         }
     }

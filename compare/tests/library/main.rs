@@ -1,6 +1,7 @@
 //! Compares the library with the brute force, and counts what was compared.
 
 mod alone;
+mod arranged;
 mod both;
 mod call;
 mod damage;
@@ -17,7 +18,9 @@ mod random;
 mod run;
 mod sentences;
 mod spellings;
+mod unsorted;
 mod worked;
+mod written;
 
 use std::panic::{catch_unwind, AssertUnwindSafe};
 use std::process::ExitCode;
@@ -29,7 +32,7 @@ use run::Run;
 type Group = (&'static str, fn(&mut Run));
 
 /// All groups.
-const GROUPS: [Group; 12] = [
+const GROUPS: [Group; 15] = [
     ("worked", worked::run),
     ("exhaustive", exhaustive::run),
     ("sentences", sentences::run),
@@ -37,6 +40,9 @@ const GROUPS: [Group; 12] = [
     ("random", random::run),
     ("limits", limits::run),
     ("order", order::run),
+    ("written", written::run),
+    ("arranged", arranged::run),
+    ("unsorted", unsorted::run),
     ("files", files::run),
     ("spellings", spellings::run),
     ("damage", damage::run),

@@ -2,6 +2,7 @@
 
 use compare::brute::{Brute, Row, Searcher};
 use compare::cases::lines::any_lines;
+use compare::cases::orders::disorder;
 use compare::cases::random::{add_garbage, any_cursors, any_marks, any_pattern, any_text, break_pattern, Kind};
 use compare::cases::sentences::without_stops;
 use compare::layout::Pattern;
@@ -16,6 +17,9 @@ const WRITTEN_OUT: u128 = 2_000;
 
 /// The most rows of the front list that are looked at one by one.
 const ROWS: usize = 12;
+
+/// Of so many patterns within the other limits, one has words that do not rise.
+const UNSORTED: usize = 40;
 
 /// What the random patterns are like: narrow, wide, and with many slots.
 const KINDS: [Kind; 4] = [
@@ -33,7 +37,11 @@ pub fn run(run: &mut Run) {
     let mut rng = Rng::new(22);
     for round in 0..6_000 {
         let kind = &KINDS[round % KINDS.len()];
-        let pattern = any_pattern(&mut rng, kind);
+        let mut pattern = any_pattern(&mut rng, kind);
+        if rng.once_in(UNSORTED) {
+            let slot = rng.within(0, pattern.count - 1);
+            disorder(&mut rng, &mut pattern.slots[slot]);
+        }
         let length = rng.within(0, 60);
         let text = any_text(&mut rng, length, kind.highest_word);
         compare(run, &mut rng, &pattern, &text);

@@ -5,7 +5,7 @@ use std::fmt::Debug;
 use crate::call::Call;
 
 /// The numbers that the library refuses with; each must come up in a run.
-const REFUSALS: [usize; 15] = [1, 2, 3, 4, 5, 6, 7, 8, 9, 10, 11, 12, 13, 14, 15];
+const REFUSALS: [usize; 16] = [1, 2, 3, 4, 5, 6, 7, 8, 9, 10, 11, 12, 13, 14, 15, 16];
 
 /// How many numbers there is room for: 0, where nothing is refused, and those of documents 01 and 02, 1 to 28.
 const NUMBERS: usize = 29;

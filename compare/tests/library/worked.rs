@@ -4,8 +4,10 @@
 use compare::brute::Brute;
 use compare::cases::examples::EXAMPLES;
 use compare::cases::files::{text_file, usual_pattern_file};
+use compare::cases::orders::canonical;
 use compare::cases::pattern;
 use compare::cases::worked::{worked_texts, Rows, Worked};
+use compare::cases::written::MOST_BYTES;
 use compare::ffi;
 use compare::layout::{Answer, Cursors, Found, LineEnds, Pattern};
 
@@ -16,15 +18,17 @@ use crate::run::Run;
 /// Compares the texts and the examples.
 pub fn run(run: &mut Run) {
     for case in worked_texts() {
-        let pattern = pattern(case.span, case.slots);
+        let as_stated = pattern(case.span, case.slots);
+        let pattern = canonical(&as_stated);
         stated(case, &pattern);
         let mut both = Both::new(run, Brute::enumerated(&pattern, case.text));
         for row in case.all.into_iter().flatten().chain(case.no_occurrences) {
             both.row(row);
         }
         both.every_call(&vec![0; case.slots.len()], &Cursors::default(), 1);
-        let (file, text) = (usual_pattern_file(&pattern), text_file(case.text));
+        let (file, text) = (usual_pattern_file(&as_stated), text_file(case.text));
         stated_in_files(case, &pattern, &file, &text);
+        handed_in(run, &as_stated, &pattern, case.text);
         file_calls::pair(run, &file, &text);
         file_calls::lines(run, &text);
     }
@@ -37,6 +41,15 @@ pub fn run(run: &mut Run) {
         file_calls::lines(run, input);
         assert_lines(input);
         assert_lines(output);
+    }
+}
+
+/// Compares every call on a pattern whose words are as they are stated, if these are not in order: it is refused.
+fn handed_in(run: &mut Run, as_stated: &Pattern, pattern: &Pattern, text: &[u16]) {
+    if as_stated != pattern {
+        assert_eq!(ffi::check_pattern(as_stated).number, 16);
+        let mut both = Both::new(run, Brute::enumerated(as_stated, text));
+        both.every_call(&vec![0; pattern.count], &Cursors::default(), 1);
     }
 }
 
@@ -90,13 +103,16 @@ fn assert_found(row: Option<&&[u16]>, found: &Found) {
 }
 
 /// Asserts that the files of a text are read as its pattern and its words, and counted, and that the pattern passes its
-/// tests.
+/// tests and is written as its file.
 fn stated_in_files(case: &Worked, pattern: &Pattern, file: &[u8], text: &[u8]) {
     let mut words = vec![0; case.text.len()];
     let read = ffi::read_input(file, text, &mut words);
     assert_eq!((read.number, read.place, read.words), (0, 0, case.text.len() as u64));
     assert_eq!((read.pattern, &words[..]), (*pattern, case.text));
     assert_eq!(ffi::check_pattern(pattern), Answer { number: 0, place: 0, value: 0 });
+    let mut written = [0; MOST_BYTES];
+    let bytes = ffi::write_pattern(pattern, &mut written).value as usize;
+    assert_eq!(&written[..bytes], usual_pattern_file(pattern));
     assert_eq!(ffi::count(file, text), case.count as u32);
 }
 

@@ -2,7 +2,7 @@
 use Prim.Native.Nat.{_≤_}
 use native.Mathlib.Omega.{arith}
 use Rattle.pattern.specs.declared.refusal.Refusal.{Refusal}
-use Rattle.pattern.specs.declared.refusal.Refusal.the-variants.{SlotCount, WordCount, ZeroWord, Gap, Span, TextLength, RowLength, ListLength, Tally, Names, Values, FileLength, WordListLength, Client, Served}
+use Rattle.pattern.specs.declared.refusal.Refusal.the-variants.{SlotCount, WordCount, ZeroWord, Gap, Span, TextLength, RowLength, ListLength, Tally, Names, Values, FileLength, WordListLength, Client, Served, WordOrder}
 use Rattle.pattern.specs.Refusals.{numberOf}
 
 pub number-range : (why : Refusal) → (1 ≤ numberOf why) × (numberOf why ≤ 99)
@@ -21,3 +21,4 @@ number-range FileLength = (omega arith, omega arith)
 number-range WordListLength = (omega arith, omega arith)
 number-range Client = (omega arith, omega arith)
 number-range Served = (omega arith, omega arith)
+number-range (WordOrder slot) = (omega arith, omega arith)

@@ -22,6 +22,8 @@ use Rattle.format.specs.declared.patterns.PatternRead.{PatternRead}
 use Rattle.format.specs.declared.reader.Line.{Line}
 use Rattle.format.specs.declared.texts.TextRead.{TextRead}
 use Rattle.format.specs.declared.texts.TextRead.the-variants.{Words, Refused as NoText}
+use Rattle.format.specs.declared.writing.PatternWritten.{PatternWritten}
+use Rattle.format.specs.declared.writing.PatternWritten.the-variants.{Bytes, Refused as NotWritten}
 use Rattle.cursors.specs.declared.Cursors.{Cursors}
 use Rattle.cursors.specs.declared.Served.{Served}
 use Rattle.cursors.specs.declared.Rewound.{Rewound}
@@ -62,6 +64,11 @@ ofTallied (NotTallied why) = refused why
 abbrev pub ofTextRead : TextRead → Answer
 ofTextRead (Words n) = value n
 ofTextRead (NoText why) = refused why
+
+-- a pattern that was written: how many bytes
+abbrev pub ofWritten : PatternWritten → Answer
+ofWritten (Bytes n) = value n
+ofWritten (NotWritten why) = refused why
 
 -- 1 for yes, 0 for no
 abbrev pub ofTested : Tested → Answer

@@ -1,5 +1,6 @@
 use cursors::Cursors;
 use excerpts::Tested;
+use format::PatternWritten;
 use format::TextRead;
 use matching::Listed;
 use matching::Outcome;
@@ -7,7 +8,7 @@ use pattern::Pattern;
 use pattern::Refusal;
 use pattern::Verdict;
 ghost use mathlib.Core.Path.{_≡_};
-ghost use Rattle.bindings.specs.Answers.{refused, value, ofVerdict, ofListed, ofTextRead, ofTested, ofOutcome, withPattern};
+ghost use Rattle.bindings.specs.Answers.{refused, value, ofVerdict, ofListed, ofTextRead, ofWritten, ofTested, ofOutcome, withPattern};
 
 // An answer, or a refusal's number with its place; then the value is 0.
 #[repr(C)]
@@ -116,6 +117,16 @@ pub(crate) fn of_text_read(read: TextRead) -> Answer
     match read {
         TextRead::Words(n) => value(n as u64),
         TextRead::Refused(why) => refused(why),
+    }
+}
+
+// What writing a pattern answered, as numbers.
+pub(crate) fn of_written(written: PatternWritten) -> Answer
+    ensures { λ r. ⌜ r ≡ ofWritten written ⌝ }
+{
+    match written {
+        PatternWritten::Bytes(n) => value(n as u64),
+        PatternWritten::Refused(why) => refused(why),
     }
 }
 

@@ -3,18 +3,21 @@ use crate::answers::LineEnds;
 use crate::answers::Made;
 use crate::answers::ReadBoth;
 use crate::answers::of_text_read;
+use crate::answers::of_written;
 use crate::answers::with_pattern;
 use crate::lists::bedbloomer_support;
+use pattern::Pattern;
 ghost use mathlib.Core.Path.{_≡_};
 ghost use Prim.Native.Nat.{min};
 ghost use lib.ListN.{length};
 ghost use Rattle.format.specs.Input.{inputRead, inputWritten};
 ghost use Rattle.format.specs.Lines.{lineAt};
 ghost use Rattle.format.specs.Patterns.{patternRead};
+ghost use Rattle.format.specs.Printed.{patternWritten, patternLeft};
 ghost use Rattle.format.specs.Texts.{textRead, textWritten};
 ghost use Rattle.basics.specs.Writing.{overlaid};
 ghost use Rattle.report.specs.Report.{reported};
-ghost use Rattle.bindings.specs.Answers.{ofPatternRead, ofTextRead, ofInputRead, ofLine};
+ghost use Rattle.bindings.specs.Answers.{ofPatternRead, ofTextRead, ofInputRead, ofWritten, ofLine};
 ghost use Rattle.bindings.specs.Counts.{countOf};
 
 // The count for two files, with room for every text within the limit.
@@ -85,6 +88,16 @@ pub extern "C" fn bedbloomer_read_input(pattern: &[u8], text: &[u8], words: &mut
         words: told.value,
         pattern: shown,
     }
+}
+
+// Writes a pattern as a file to the start of `out`: how many bytes.
+#[no_mangle]
+pub extern "C" fn bedbloomer_write_pattern(pattern: Pattern, out: &mut [u8]) -> Answer
+    ensures { λ r. ⌜ r ≡ ofWritten (patternWritten pattern (length (now (out .entry)))) ⌝ }
+    ensures { λ _. ⌜ now (out .exit) ≡ patternLeft pattern (now (out .entry)) ⌝ }
+{
+    let written = format::write_pattern(pattern, out);
+    of_written(written)
 }
 
 // The line that begins at a place of the bytes.

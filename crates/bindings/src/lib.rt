@@ -19,6 +19,7 @@ pub use files::bedbloomer_read_input;
 pub use files::bedbloomer_read_pattern;
 pub use files::bedbloomer_read_text;
 pub use files::bedbloomer_report;
+pub use files::bedbloomer_write_pattern;
 pub use lists::bedbloomer_all;
 pub use lists::bedbloomer_leftmost;
 pub use lists::bedbloomer_rightmost;

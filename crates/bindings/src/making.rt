@@ -18,7 +18,7 @@ pub extern "C" fn bedbloomer_pattern_of(least: u16, most: u16) -> Pattern
     start.with_span(least, most)
 }
 
-// The pattern with one slot more.
+// The pattern with one slot more, its words in rising order, each once.
 #[no_mangle]
 pub extern "C" fn bedbloomer_with_slot(
     pattern: Pattern,
@@ -35,7 +35,7 @@ pub extern "C" fn bedbloomer_with_slot(
     with_pattern(verdict, longer)
 }
 
-// The first of the tests 1 to 5 that the pattern fails.
+// The first of the tests 1 to 5 and 16 that the pattern fails.
 #[no_mangle]
 pub extern "C" fn bedbloomer_check_pattern(pattern: Pattern) -> Answer
     ensures { λ r. ⌜ r ≡ ofVerdict (patternVerdict pattern) ⌝ }
@@ -43,7 +43,7 @@ pub extern "C" fn bedbloomer_check_pattern(pattern: Pattern) -> Answer
     of_verdict(pattern.check())
 }
 
-// The first of the tests 1 to 6 that the pattern and a text of so many words fail.
+// The first of the tests 1 to 5, 16 and 6 that the pattern and a text of so many words fail.
 #[no_mangle]
 pub extern "C" fn bedbloomer_check(pattern: Pattern, words: usize) -> Answer
     ensures { λ r. ⌜ r ≡ ofVerdict (inputVerdict pattern words) ⌝ }

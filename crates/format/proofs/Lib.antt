@@ -8,3 +8,4 @@ mod WordSteps
 mod TextSteps
 mod InputSteps
 mod PatternSteps
+mod Known

@@ -1,12 +1,19 @@
 -- What follows from the definitions: above all that a file is read as contents exactly if it shows them.
 pub mod Numbers
 pub mod Lines
+pub mod Writing
 pub mod TextShown
 pub mod Fields
 pub mod Words
 pub mod Orders
 pub mod PatternPrinted
 pub mod PatternShown
+pub mod Limits
 pub mod Reading
+pub mod Printing
+pub mod Printed
+pub mod PrintedSize
+pub mod PrintedRead
+pub mod Rearranged
 pub mod Input
 pub mod Examples

@@ -11,6 +11,7 @@ use Rattle.pattern.specs.declared.refusal.Refusal.the-variants.{Names, Values, 
 use Rattle.pattern.specs.declared.refusal.Verdict.{Verdict}
 use Rattle.pattern.specs.declared.refusal.Verdict.the-variants.{Accepted, Refused}
 use Rattle.pattern.specs.Patterns.{emptySlot, emptyPattern, slotOf}
+use Rattle.pattern.specs.Words.{canonical}
 use Rattle.basics.specs.Choice.{pick}
 use Rattle.pattern.specs.Tests.{patternVerdict}
 use Rattle.format.specs.Bytes.{lines, ended, fields, field, value, isNumber, allNumbers}
@@ -84,9 +85,13 @@ patternContents s = fromNames (lines s) (ended s 10)
 
 -- ---- the pattern of these span limits and slots: their count is stated, the first sixteen are stored, and unused entries are 0
 
--- the slot of a line
+-- the slot of a line as it stands
+abbrev pub statedSlot : SlotLine → Slot
+statedSlot l = slotOf (l .low) (l .high) (l .excluding) (l .words)
+
+-- and as a pattern holds it
 abbrev pub madeSlot : SlotLine → Slot
-madeSlot l = slotOf (l .low) (l .high) (l .excluding) (l .words)
+madeSlot l = canonical (statedSlot l)
 
 -- the first sixteen slots, and unused ones after them
 abbrev pub firstSlots : List Slot → List Slot
@@ -96,7 +101,7 @@ firstSlots ss = take 16 ss ++ replicate (16 - length ss) emptySlot
 abbrev pub shownPattern : ℕ → ℕ → List SlotLine → Pattern
 shownPattern least most ls = record { slots = firstSlots (map madeSlot ls); count = length ls; least = least; most = most }
 
--- ---- the answer: 12, layout, then the tests 1 to 5; a new pattern beside a refusal
+-- ---- the answer: 12, layout, then the tests 1 to 5 (16 never applies); a new pattern beside a refusal
 
 -- a refusal
 abbrev pub refusedPattern : Refusal → PatternRead
@@ -107,7 +112,7 @@ abbrev pub judgedBy : Verdict → Pattern → PatternRead
 judgedBy Accepted f = record { verdict = Accepted; pattern = f }
 judgedBy (Refused why) f = refusedPattern why
 
--- the pattern by the tests 1 to 5
+-- the pattern by its tests
 abbrev pub judged : Pattern → PatternRead
 judged f = judgedBy (patternVerdict f) f
 

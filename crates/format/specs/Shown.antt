@@ -1,6 +1,7 @@
 -- The other face of the format, stated by printing: the bytes of a file that shows a text or a pattern.
 use Prim.Native.Nat.{ℕ, _≤_, _<_}
-use mathlib.Core.List.{List, [], _∷_, _++_, map}
+use mathlib.Core.List.{List, [], _∷_, _++_, map, List·Memᴰ}
+use mathlib.Core.Logic.{_↔_}
 use mathlib.Core.Bool.{Bool, false}
 use mathlib.Core.Path.{_≡_}
 use lib.Dec.{eqb}
@@ -68,9 +69,13 @@ oneOf c k l h w = pick (eqb (c .low) k) l (pick (eqb (c .high) k) h w)
 abbrev pub three : {A : Type 0} → Columns → A → A → A → List A
 three c l h w = oneOf c 0 l h w ∷ oneOf c 1 l h w ∷ oneOf c 2 l h w ∷ []
 
+-- `!` for an excluding slot
+abbrev pub markText : Bool → List ℕ
+markText excluding = pick excluding (33 ∷ []) []
+
 -- a slot's words with commas between them, and `!` before those of an excluding slot
 abbrev pub wordsText : Bool → List ℕ → List ℕ
-wordsText excluding ws = pick excluding (33 ∷ []) [] ++ joined (map digits ws) 44
+wordsText excluding ws = markText excluding ++ joined (map digits ws) 44
 
 -- the line of a slot
 unfoldable pub slotText : Columns → SlotLine → List ℕ
@@ -93,6 +98,19 @@ pub record SmallSlot (r : SlotLine) : Type 0 where
 pub data SmallSlots : List SlotLine → Type 0 where
   no-slot : SmallSlots []
   also-slot : {r : SlotLine} {rs : List SlotLine} → SmallSlot r → SmallSlots rs → SmallSlots (r ∷ rs)
+
+-- lines of a slot that differ only in the order and repetition of its words, at most eight
+pub record AlikeLine (r q : SlotLine) : Type 0 where
+  pub low : r .low ≡ q .low
+  pub high : r .high ≡ q .high
+  pub excluding : r .excluding ≡ q .excluding
+  pub words : (w : ℕ) → List·Memᴰ w (r .words) ↔ List·Memᴰ w (q .words)
+  pub few : (length (r .words) ≤ 8) × (length (q .words) ≤ 8)
+
+-- line for line
+pub data AlikeLines : List SlotLine → List SlotLine → Type 0 where
+  no-line : AlikeLines [] []
+  also-line : {r q : SlotLine} {rs qs : List SlotLine} → AlikeLine r q → AlikeLines rs qs → AlikeLines (r ∷ rs) (q ∷ qs)
 
 -- the file shows the span limits and the slots, with the names of each line in some order
 pub data PatternShows : List ℕ → ℕ → ℕ → List SlotLine → Type 0 where

@@ -85,7 +85,7 @@ fn refuse(why: Refusal) -> PatternRead
     }
 }
 
-// The pattern where the tests 1 to 5 accept it.
+// The pattern where its tests accept it.
 fn judge(pattern: Pattern) -> PatternRead
     ensures { λ r. ⌜ r ≡ judged pattern ⌝ }
 {

@@ -46,11 +46,12 @@ pub(crate) fn slot_of(s: &[u8], c: Columns) -> Slot
     ensures { λ r. ⌜ r ≡ madeSlot (readSlot c (now (s .entry))) ⌝ }
 {
     let list = part(s, b' ', c.words);
-    Slot {
+    let shown = Slot {
         words: first_words(list),
         count: count_words(list),
         low: value(part(s, b' ', c.low)),
         high: value(part(s, b' ', c.high)),
         excluding: marked(list),
-    }
+    };
+    shown.canonical()
 }

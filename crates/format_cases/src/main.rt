@@ -1,4 +1,7 @@
 // Reads files with the compiled library and prints, for each, what it answers: how many slots or words, or `refused` with number and place.
+// Then it writes patterns that were read, and prints what was written.
+use basics::smaller;
+use format::PatternWritten;
 use format::TextRead;
 use libc::STDOUT_FILENO;
 use pattern::Refusal;
@@ -87,6 +90,39 @@ fn long_cases() {
     text_case(first(&text, 40008));
 }
 
+// A pattern file, read and written again: what is written.
+fn write_in(bytes: &[u8], out: &mut [u8]) {
+    let read = format::read_pattern(bytes);
+    let pattern = read.pattern;
+    let written = format::write_pattern(pattern, out);
+    match written {
+        PatternWritten::Bytes(n) => {
+            io::write_all(STDOUT_FILENO, first(out, n));
+        }
+        PatternWritten::Refused(why) => print_refusal(why),
+    }
+}
+
+// The same with so much room.
+fn write_case(bytes: &[u8], room: usize) {
+    let mut out = [0u8; 916];
+    let end = smaller(room, out.len());
+    write_in(bytes, &mut out[0..end]);
+}
+
+// Words in another order and with repeats, names in another order, and lists that are just long enough and one byte too short.
+fn write_cases() {
+    write_case(
+        b"most least\n9 3\nwords high low\n8,65535,7 0 0\n!15,12,15 63 10\n! 1 0\n",
+        916,
+    );
+    write_case(b"least most\n1 20000\nlow high words\n0 0 7\n", 40);
+    write_case(b"least most\n1 20000\nlow high words\n0 0 7\n", 39);
+    write_case(b"", 916);
+    pattern_case(b"least most\n1 20000\nlow high words\n0 0 1,1,1,1,1,1,1,1\n");
+    pattern_case(b"least most\n1 20000\nlow high words\n0 0 1,1,1,1,1,1,1,1,1\n");
+}
+
 // Pattern files with excluding slots, right and refused.
 fn mark_cases() {
     pattern_case(b"least most\n1 20000\nlow high words\n0 0 7\n0 0 !12,15\n0 0 !\n");
@@ -130,5 +166,6 @@ fn main() {
     input_case(b"least most\n1 5\nlow high words\n0 0 7\n", b"word");
     input_case(b"least most\n1 5\nlow high words\n0 0 7\n", b"word\n7\n7\n");
     mark_cases();
+    write_cases();
     long_cases();
 }

@@ -2,3 +2,4 @@
 mod Arrays
 mod Numbers
 mod Slots
+mod Ordering

@@ -1,4 +1,4 @@
--- The patterns and texts that are accepted, by their limits (document 01, "Text and frame"; document 02, Job 2).
+-- The patterns and texts that are accepted, by their limits (document 01, "Text and frame"; document 02, Jobs 2 and 3).
 use Prim.Native.Nat.{ℕ, _≤_, _<_}
 use mathlib.Core.Path.{_≡_}
 use mathlib.Core.Bool.{false}
@@ -6,6 +6,7 @@ use mathlib.Core.List.{List·Memᴰ}
 use Rattle.pattern.specs.declared.slot.Slot.{Slot}
 use Rattle.pattern.specs.declared.Pattern.{Pattern}
 use Rattle.pattern.specs.Patterns.{stated, slotAt}
+use Rattle.pattern.specs.Words.{Rising}
 
 -- a slot: 1 to 8 words (excluding: 0 to 8), none of them 0, and a gap within 0 to 63
 pub record AcceptedSlot (s : Slot) : Type 0 where
@@ -24,6 +25,7 @@ pub record Accepted (f : Pattern) : Type 0 where
   pub least : 1 ≤ f .least
   pub ordered : f .least ≤ f .most
   pub most : f .most ≤ 20000
+  pub rising : (j : ℕ) → j < f .count → Rising (stated (slotAt f j))
 
 -- a pattern and a text of n words
 pub record AcceptedInput (f : Pattern) (n : ℕ) : Type 0 where

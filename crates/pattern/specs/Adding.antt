@@ -1,4 +1,5 @@
--- Adding a slot: tests 1, then 2, 3 and 4 of the new slot alone, whose number is the place. A refusal gives the pattern back unchanged.
+-- Adding a slot: tests 1, then 2, 3 and 4 of the new slot alone, with its words as they are handed over, its number being the place. Then its
+-- words are put in rising order, each once. A refusal gives the pattern back unchanged.
 use Prim.Native.Nat.{ℕ, _+_}
 use mathlib.Core.List.{List}
 use mathlib.Core.Bool.{Bool}
@@ -10,6 +11,7 @@ use Rattle.pattern.specs.declared.refusal.Refusal.the-variants.{SlotCoun
 use Rattle.pattern.specs.declared.refusal.Verdict.{Verdict}
 use Rattle.pattern.specs.declared.refusal.Verdict.the-variants.{Accepted, Refused}
 use Rattle.pattern.specs.Patterns.{slotOf, withSlot}
+use Rattle.pattern.specs.Words.{canonical}
 use Rattle.basics.specs.Choice.{pick}
 use Rattle.pattern.specs.Tests.{slotVerdict}
 
@@ -22,4 +24,4 @@ added (Refused why) f s = record { verdict = Refused why; pattern = f }
 unfoldable pub extended : Pattern → ℕ → ℕ → Bool → List ℕ → Extended
 extended f low high excluding ws =
     pick (leb 16 (f .count)) (record { verdict = Refused SlotCount; pattern = f })
-    (added (slotVerdict (f .count + 1) (slotOf low high excluding ws)) f (slotOf low high excluding ws))
+    (added (slotVerdict (f .count + 1) (slotOf low high excluding ws)) f (canonical (slotOf low high excluding ws)))

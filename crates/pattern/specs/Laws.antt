@@ -1,5 +1,10 @@
 -- What follows from the definitions.
 pub mod Members
+pub mod Words
 pub mod Slots
 pub mod Accepting
 pub mod Stated
+pub mod Agree
+pub mod Canonical
+pub mod Limits
+pub mod Adding

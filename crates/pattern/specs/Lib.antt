@@ -1,9 +1,13 @@
 -- What a pattern is, which patterns are refused and why. `Laws` has what follows.
 pub mod Patterns
+pub mod Words
 pub mod Numbers
 pub mod Stated
+pub mod Agree
+pub mod Sized
 pub mod Refusals
 pub mod Tests
 pub mod Adding
 pub mod Accepted
+pub mod Steps
 pub mod Laws

@@ -1,7 +1,7 @@
--- The number and the place of each refusal (document 01, "Turned away").
+-- The number and the place of each refusal (document 01, "Turned away"; 16: document 02, Job 3).
 use Prim.Native.Nat.{ℕ}
 use Rattle.pattern.specs.declared.refusal.Refusal.{Refusal}
-use Rattle.pattern.specs.declared.refusal.Refusal.the-variants.{SlotCount, WordCount, ZeroWord, Gap, Span, TextLength, RowLength, ListLength, Tally, Names, Values, FileLength, WordListLength, Client, Served}
+use Rattle.pattern.specs.declared.refusal.Refusal.the-variants.{SlotCount, WordCount, ZeroWord, Gap, Span, TextLength, RowLength, ListLength, Tally, Names, Values, FileLength, WordListLength, Client, Served, WordOrder}
 
 -- its number in the table
 abbrev pub numberOf : Refusal → ℕ
@@ -20,6 +20,7 @@ numberOf FileLength = 12
 numberOf WordListLength = 13
 numberOf Client = 14
 numberOf Served = 15
+numberOf (WordOrder slot) = 16
 
 -- its place: the slot, the line, the count, or 0
 abbrev pub placeOf : Refusal → ℕ
@@ -38,3 +39,4 @@ placeOf FileLength = 0
 placeOf WordListLength = 0
 placeOf Client = 0
 placeOf Served = 0
+placeOf (WordOrder slot) = slot

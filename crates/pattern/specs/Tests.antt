@@ -1,15 +1,17 @@
--- The tests 1 to 6 of document 01, "Turned away", in their order, 2 as document 02, Job 2, has it: the first that applies refuses.
+-- The tests 1 to 6 of document 01, "Turned away", in their order, 2 as document 02, Job 2, has it, and 16 after 5 (Job 3): the first that
+-- applies refuses.
 use Prim.Native.Nat.{ℕ, zero, suc, _+_}
-use mathlib.Core.Bool.{Bool}
+use mathlib.Core.Bool.{Bool, not}
 use lib.Dec.{ltb, eqb}
 use Rattle.basics.specs.Choice.{pick}
 use Rattle.pattern.specs.declared.slot.Slot.{Slot}
 use Rattle.pattern.specs.declared.Pattern.{Pattern}
 use Rattle.pattern.specs.declared.refusal.Refusal.{Refusal}
-use Rattle.pattern.specs.declared.refusal.Refusal.the-variants.{SlotCount, WordCount, ZeroWord, Gap, Span, TextLength}
+use Rattle.pattern.specs.declared.refusal.Refusal.the-variants.{SlotCount, WordCount, ZeroWord, Gap, Span, TextLength, WordOrder}
 use Rattle.pattern.specs.declared.refusal.Verdict.{Verdict}
 use Rattle.pattern.specs.declared.refusal.Verdict.the-variants.{Accepted, Refused}
-use Rattle.pattern.specs.Patterns.{lists, slotAt}
+use Rattle.pattern.specs.Patterns.{stated, lists, slotAt}
+use Rattle.pattern.specs.Words.{rises}
 
 -- refused where the test applies, else as the later tests say
 abbrev pub refuse : Bool → Refusal → Verdict → Verdict
@@ -37,10 +39,14 @@ slotVerdict k s =
     (refuse (ltb (s .high) (s .low)) (Gap k)
     (refuse (ltb (widestGap k) (s .high)) (Gap k) Accepted))))
 
--- slot by slot, of the n slots from slot j on
-unfoldable pub slotsVerdict : Pattern → ℕ → ℕ → Verdict
-slotsVerdict f j zero = Accepted
-slotsVerdict f j (suc n) = andThen (slotVerdict (j + 1) (slotAt f j)) (slotsVerdict f (j + 1) n)
+-- 16, of slot number k: its words do not rise strictly
+abbrev pub orderVerdict : ℕ → Slot → Verdict
+orderVerdict k s = refuse (not (rises (stated s))) (WordOrder k) Accepted
+
+-- tests of a slot, slot by slot, of the n slots from slot j on
+unfoldable pub slotsVerdict : (ℕ → Slot → Verdict) → Pattern → ℕ → ℕ → Verdict
+slotsVerdict test f j zero = Accepted
+slotsVerdict test f j (suc n) = andThen (test (j + 1) (slotAt f j)) (slotsVerdict test f (j + 1) n)
 
 -- 5
 unfoldable pub spanVerdict : ℕ → ℕ → Verdict
@@ -50,13 +56,17 @@ spanVerdict least most =
     (refuse (ltb 20000 most) Span Accepted))
 
 -- 1 to 5
-unfoldable pub patternVerdict : Pattern → Verdict
-patternVerdict f =
+unfoldable pub limitsVerdict : Pattern → Verdict
+limitsVerdict f =
     refuse (eqb (f .count) 0) SlotCount
     (refuse (ltb 16 (f .count)) SlotCount
-    (andThen (slotsVerdict f 0 (f .count))
+    (andThen (slotsVerdict slotVerdict f 0 (f .count))
     (spanVerdict (f .least) (f .most))))
 
--- 1 to 6, of a pattern and a text of n words
+-- 1 to 5, then 16
+unfoldable pub patternVerdict : Pattern → Verdict
+patternVerdict f = andThen (limitsVerdict f) (slotsVerdict orderVerdict f 0 (f .count))
+
+-- 1 to 5, 16, then 6, of a pattern and a text of n words
 unfoldable pub inputVerdict : Pattern → ℕ → Verdict
 inputVerdict f n = andThen (patternVerdict f) (refuse (ltb 20000 n) TextLength Accepted)

@@ -4,7 +4,7 @@ use crate::Slot;
 use crate::Verdict;
 ghost use mathlib.Core.Path.{_≡_};
 ghost use Prim.Native.Nat.{_≤_};
-ghost use Rattle.pattern.specs.Tests.{widestGap, fewestWords, slotVerdict, slotsVerdict, spanVerdict};
+ghost use Rattle.pattern.specs.Tests.{widestGap, fewestWords, slotVerdict, orderVerdict, slotsVerdict, spanVerdict};
 
 // The widest gap that may stand before slot number k.
 fn widest(k: usize) -> u16
@@ -52,7 +52,7 @@ pub(crate) fn slot_verdict(k: usize, slot: Slot) -> Verdict
 // Tests 2, 3 and 4, slot by slot.
 pub(crate) fn slots_verdict(pattern: Pattern) -> Verdict
     requires { ⌜ pattern .count ≤ 16 ⌝ }
-    ensures { λ r. ⌜ r ≡ slotsVerdict pattern 0 (pattern .count) ⌝ }
+    ensures { λ r. ⌜ r ≡ slotsVerdict slotVerdict pattern 0 (pattern .count) ⌝ }
 {
     let count = pattern.count;
     let mut j = 0;
@@ -61,6 +61,23 @@ pub(crate) fn slots_verdict(pattern: Pattern) -> Verdict
         let verdict = slot_verdict(j + 1, slot);
         if let Verdict::Refused(why) = verdict {
             return Verdict::Refused(why);
+        }
+        j += 1;
+    }
+    Verdict::Accepted
+}
+
+// Test 16, slot by slot.
+pub(crate) fn order_verdict(pattern: Pattern) -> Verdict
+    requires { ⌜ pattern .count ≤ 16 ⌝ }
+    ensures { λ r. ⌜ r ≡ slotsVerdict orderVerdict pattern 0 (pattern .count) ⌝ }
+{
+    let count = pattern.count;
+    let mut j = 0;
+    while j < count {
+        let slot = pattern.slots[j];
+        if !slot.rises() {
+            return Verdict::Refused(Refusal::WordOrder(j + 1));
         }
         j += 1;
     }

@@ -7,6 +7,7 @@ ghost use Rattle.pattern.specs.Adding.{extended};
 mod checks;
 mod refusal;
 mod slot;
+mod words;
 
 pub use refusal::Refusal;
 pub use refusal::Verdict;
@@ -79,7 +80,7 @@ impl Pattern {
         }
     }
 
-    // The pattern with one slot more, after the others.
+    // The pattern with one slot more, after the others; its words are put in rising order, each once.
     pub fn with_slot(self, low: u16, high: u16, excluding: bool, words: &[u16]) -> Extended
         ensures { λ r. ⌜ r ≡ extended self low high excluding (now (words .entry)) ⌝ }
     {
@@ -98,8 +99,9 @@ impl Pattern {
                 pattern: self,
             };
         }
+        let held = slot.canonical();
         let mut slots = self.slots;
-        slots[count] = slot;
+        slots[count] = held;
         Extended {
             verdict: Verdict::Accepted,
             pattern: Pattern {
@@ -111,7 +113,7 @@ impl Pattern {
         }
     }
 
-    // The first of the tests 1 to 5 that the pattern fails.
+    // The first of the tests 1 to 5 and 16 that the pattern fails.
     pub fn check(self) -> Verdict
         ensures { λ r. ⌜ r ≡ patternVerdict self ⌝ }
     {
@@ -126,10 +128,14 @@ impl Pattern {
         if let Verdict::Refused(why) = verdict {
             return Verdict::Refused(why);
         }
-        checks::span_verdict(self.least, self.most)
+        let span = checks::span_verdict(self.least, self.most);
+        if let Verdict::Refused(why) = span {
+            return Verdict::Refused(why);
+        }
+        checks::order_verdict(self)
     }
 
-    // The first of the tests 1 to 6 that the pattern and a text of so many words fail.
+    // The first of the tests 1 to 5, 16 and 6 that the pattern and a text of so many words fail.
     pub fn check_with(self, words: usize) -> Verdict
         ensures { λ r. ⌜ r ≡ inputVerdict self words ⌝ }
     {

@@ -1,7 +1,7 @@
 ghost use mathlib.Core.Path.{_≡_};
 ghost use Rattle.pattern.specs.Refusals.{numberOf, placeOf};
 
-// Why a call is refused: a case for each number of document 01's table, in its order. What a case carries is its place.
+// Why a call is refused: a case for each number of document 01's table, in its order, then document 02's. What a case carries is its place.
 pub enum Refusal {
     SlotCount,
     WordCount(usize),
@@ -18,6 +18,7 @@ pub enum Refusal {
     WordListLength,
     Client,
     Served,
+    WordOrder(usize),
 }
 
 // Whether what was handed in is accepted, and if not, why.
@@ -27,7 +28,7 @@ pub enum Verdict {
 }
 
 impl Refusal {
-    // The number in document 01's table.
+    // Its number in the table.
     pub fn number(self) -> u32
         ensures { λ r. ⌜ r ≡ numberOf self ⌝ }
     {
@@ -47,6 +48,7 @@ impl Refusal {
             Refusal::WordListLength => 13,
             Refusal::Client => 14,
             Refusal::Served => 15,
+            Refusal::WordOrder(_) => 16,
         }
     }
 
@@ -70,6 +72,7 @@ impl Refusal {
             Refusal::WordListLength => 0,
             Refusal::Client => 0,
             Refusal::Served => 0,
+            Refusal::WordOrder(slot) => slot,
         }
     }
 }

@@ -1,8 +1,11 @@
+use crate::words::rises;
+use crate::words::sorted;
 use basics::smaller;
 use basics::widen;
 ghost use mathlib.Core.Path.{_≡_};
-ghost use Rattle.pattern.specs.Patterns.{slotOf, withGap, lists, taken, takes, member, padded};
+ghost use Rattle.pattern.specs.Patterns.{slotOf, withGap, stated, lists, taken, takes, member, padded};
 ghost use Rattle.pattern.specs.Numbers.{Numbers, markNumber, numbersTake};
+ghost use Rattle.pattern.specs.Words.{rises, canonical};
 ghost use lib.ListN.{take};
 ghost use Prim.Native.Nat.{min};
 
@@ -98,6 +101,34 @@ impl Slot {
     {
         let listed = self.lists(word);
         taken(self.excluding, word, listed)
+    }
+
+    // Whether the words that the slot states rise strictly.
+    pub(crate) fn rises(self) -> bool
+        ensures { λ r. ⌜ r ≡ rises (stated self) ⌝ }
+    {
+        let words = self.words;
+        rises(&words, self.count)
+    }
+
+    // The slot as a pattern holds it: its words in rising order, each once; where it states more than eight, as it is.
+    pub fn canonical(self) -> Self
+        ensures { λ r. ⌜ r ≡ canonical self ⌝ }
+    {
+        let count = self.count;
+        if 8 < count {
+            return self;
+        }
+        let words = self.words;
+        let rising = sorted(&words[0..count]);
+        let entries = rising.entries;
+        Slot {
+            words: entries,
+            count: rising.count,
+            low: self.low,
+            high: self.high,
+            excluding: self.excluding,
+        }
     }
 
     // The slot with another gap before it.

@@ -1,4 +1,3 @@
 -- What follows from the definitions.
 pub mod Files
-pub mod Lines
 pub mod Size

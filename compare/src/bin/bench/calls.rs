@@ -1,9 +1,11 @@
 //! The measured calls, by the library and by hand.
 
-use crate::{by_hand, by_hand_all};
+use crate::{by_hand, by_hand_all, by_hand_file};
+use compare::cases::written::MOST_BYTES;
 use compare::ffi;
 use compare::layout::{Answer, Found, Pattern};
 use std::fmt;
+use std::hint::black_box;
 use std::process::exit;
 
 /// The refusal's number for a tally past 64 bits.
@@ -12,7 +14,10 @@ const TALLY: u32 = 9;
 /// How many searches make up a call that searches.
 const SEARCHES: usize = 100;
 
-/// A call of the library, or so many searches.
+/// How many files make up a call that writes files.
+const FILES: usize = 100;
+
+/// A call of the library, or so many searches or files.
 #[derive(Clone, Copy, PartialEq)]
 pub enum Call {
     Front,
@@ -22,6 +27,22 @@ pub enum Call {
     All,
     Forward,
     Backward,
+    Write,
+}
+
+/// The lists that a call writes to.
+#[derive(Clone, PartialEq)]
+pub struct Lists {
+    pub places: Vec<u16>,
+    pub bytes: Vec<u8>,
+}
+
+impl Lists {
+    /// Sets all entries to 0.
+    pub fn clear(&mut self) {
+        self.places.fill(0);
+        self.bytes.fill(0);
+    }
 }
 
 impl fmt::Display for Call {
@@ -34,6 +55,7 @@ impl fmt::Display for Call {
             Call::All => out.write_str("all"),
             Call::Forward => write!(out, "{SEARCHES} forward searches"),
             Call::Backward => write!(out, "{SEARCHES} backward searches"),
+            Call::Write => write!(out, "{FILES} pattern files"),
         }
     }
 }
@@ -85,8 +107,17 @@ fn searches(call: Call, search: Search, pattern: &Pattern, text: &[u16], list: &
     rows
 }
 
-/// The library's call: its value, and what it writes to the list.
-pub fn library(call: Call, pattern: &Pattern, text: &[u16], list: &mut [u16]) -> Option<u64> {
+/// A call that writes a pattern's file: how many bytes.
+type Write = fn(&Pattern, &mut [u8]) -> Option<u64>;
+
+/// Writes the pattern's file again and again: how many bytes it has.
+fn files(write: Write, pattern: &Pattern, bytes: &mut [u8]) -> Option<u64> {
+    (0..FILES).map(|_| write(black_box(pattern), black_box(bytes))).last()?
+}
+
+/// The library's call: its value, and what it writes to the lists.
+pub fn library(call: Call, pattern: &Pattern, text: &[u16], lists: &mut Lists) -> Option<u64> {
+    let list = &mut lists.places[..];
     match call {
         Call::Front => value(ffi::leftmost(pattern, text, list)),
         Call::Back => value(ffi::rightmost(pattern, text, list)),
@@ -95,11 +126,13 @@ pub fn library(call: Call, pattern: &Pattern, text: &[u16], list: &mut [u16]) ->
         Call::All => value(ffi::all(pattern, text, list)),
         Call::Forward => Some(searches(call, |p, t, m| places(ffi::first_after(p, t, m)), pattern, text, list)),
         Call::Backward => Some(searches(call, |p, t, m| places(ffi::last_before(p, t, m)), pattern, text, list)),
+        Call::Write => files(|p, bytes| value(ffi::write_pattern(p, bytes)), pattern, &mut lists.bytes),
     }
 }
 
 /// The same by hand.
-pub fn by_hand(call: Call, pattern: &Pattern, text: &[u16], list: &mut [u16]) -> Option<u64> {
+pub fn by_hand(call: Call, pattern: &Pattern, text: &[u16], lists: &mut Lists) -> Option<u64> {
+    let list = &mut lists.places[..];
     match call {
         Call::Front => Some(by_hand::leftmost(pattern, text, list) as u64),
         Call::Back => Some(by_hand::rightmost(pattern, text, list) as u64),
@@ -108,19 +141,21 @@ pub fn by_hand(call: Call, pattern: &Pattern, text: &[u16], list: &mut [u16]) ->
         Call::All => by_hand_all::all(pattern, text, list),
         Call::Forward => Some(searches(call, by_hand::first_after, pattern, text, list)),
         Call::Backward => Some(searches(call, by_hand::last_before, pattern, text, list)),
+        Call::Write => files(by_hand_file::write_pattern, pattern, &mut lists.bytes),
     }
 }
 
-/// An empty list with the room that the call needs.
-pub fn room(call: Call, pattern: &Pattern, text: &[u16]) -> Vec<u16> {
+/// Empty lists with the room that the call needs.
+pub fn room(call: Call, pattern: &Pattern, text: &[u16]) -> Lists {
     let rows = match call {
         Call::Front | Call::Back => text.len(),
         Call::Forward | Call::Backward => SEARCHES,
-        Call::Count | Call::Tally => 0,
+        Call::Count | Call::Tally | Call::Write => 0,
         Call::All => match by_hand_all::tally(pattern, text) {
             Some(rows) if rows < 10_000_000 => rows as usize,
             _ => fail("a case has too many occurrences to list"),
         },
     };
-    vec![0; rows * pattern.count]
+    let bytes = if call == Call::Write { MOST_BYTES } else { 0 };
+    Lists { places: vec![0; rows * pattern.count], bytes: vec![0; bytes] }
 }

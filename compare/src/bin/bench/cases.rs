@@ -1,6 +1,6 @@
 //! The measured cases: a selection of texts, slots, gaps, spans and calls.
 
-use crate::calls::{by_hand, fail, library, room, Call};
+use crate::calls::{by_hand, fail, library, room, Call, Lists};
 use crate::clock::{rivals, Compared};
 use crate::netback::{netback, Visits};
 use crate::texts::{pattern, span_limits, text, Kind, Spans, WORDS};
@@ -24,7 +24,7 @@ pub struct Ready {
     pub call: Call,
     pub pattern: Pattern,
     pub text: Vec<u16>,
-    pub list: Vec<u16>,
+    pub lists: Lists,
 }
 
 /// What NetBack did with a case: its rows, whether they are the front list, its time, and how many times the library's that is.
@@ -52,12 +52,12 @@ pub struct Measured {
 }
 
 impl Case {
-    /// Makes the case's pattern, text and list.
+    /// Makes the case's pattern, text and lists.
     pub fn ready(&self, words: usize) -> Ready {
         let text = text(self.kind, words);
         let pattern = pattern(self.kind, self.spans, self.slots, self.high);
-        let list = room(self.call, &pattern, &text);
-        Ready { call: self.call, pattern, text, list }
+        let lists = room(self.call, &pattern, &text);
+        Ready { call: self.call, pattern, text, lists }
     }
 
     /// The case in words.
@@ -71,10 +71,10 @@ impl Case {
     pub fn compared(&self, words: usize) -> (Ready, Option<u64>) {
         let mut ready = self.ready(words);
         let expected = ready.by_hand();
-        let written = ready.list.clone();
-        ready.list.fill(0);
+        let written = ready.lists.clone();
+        ready.lists.clear();
         let value = ready.library();
-        if value != expected || ready.list != written {
+        if value != expected || ready.lists != written {
             fail(&format!("library and by hand differ: {}", self.describe()));
         }
         (ready, value)
@@ -85,10 +85,10 @@ impl Case {
         let (mut ready, value) = self.compared(WORDS);
         let netback = (self.call == Call::Front)
             .then(|| Rivals { any: ready.netback(Visits::Any, value), once: ready.netback(Visits::Once, value) });
-        let Ready { call, pattern, text, list } = &mut ready;
-        let mut other = list.clone();
+        let Ready { call, pattern, text, lists } = &mut ready;
+        let mut other = lists.clone();
         let Compared { one, other, ratio } =
-            rivals(|| library(*call, pattern, text, list), || by_hand(*call, pattern, text, &mut other));
+            rivals(|| library(*call, pattern, text, lists), || by_hand(*call, pattern, text, &mut other));
         Measured { case: *self, value, library: one, by_hand: other, ratio, netback }
     }
 }
@@ -96,23 +96,23 @@ impl Case {
 impl Ready {
     /// The library's call.
     pub fn library(&mut self) -> Option<u64> {
-        library(self.call, &self.pattern, &self.text, &mut self.list)
+        library(self.call, &self.pattern, &self.text, &mut self.lists)
     }
 
     /// The same by hand.
     pub fn by_hand(&mut self) -> Option<u64> {
-        by_hand(self.call, &self.pattern, &self.text, &mut self.list)
+        by_hand(self.call, &self.pattern, &self.text, &mut self.lists)
     }
 
     /// Runs NetBack within its limit, and compares it with the front list, which has so many rows and is written.
     fn netback(&self, visits: Visits, front: Option<u64>) -> Option<Rival> {
         let found = netback(&self.pattern, &self.text, visits, LIMIT_MS)?;
         let rows = found.len() / self.pattern.count;
-        let same = front == Some(rows as u64) && self.list.starts_with(&found);
-        let Ready { call, pattern, text, list } = self;
-        let mut list = list.clone();
+        let same = front == Some(rows as u64) && self.lists.places.starts_with(&found);
+        let Ready { call, pattern, text, lists } = self;
+        let mut lists = lists.clone();
         let Compared { one, ratio, .. } =
-            rivals(|| netback(pattern, text, visits, LIMIT_MS), || library(*call, pattern, text, &mut list));
+            rivals(|| netback(pattern, text, visits, LIMIT_MS), || library(*call, pattern, text, &mut lists));
         Some(Rival { rows, same, ms: one, times: ratio })
     }
 }
@@ -167,5 +167,7 @@ pub fn cases() -> Vec<Case> {
             cases.push(loose(Kind::Excluding(listed), 3, 3, call));
         }
     }
+    cases.push(loose(Kind::Plain(1), 1, 63, Call::Write));
+    cases.push(loose(Kind::Plain(8), 16, 63, Call::Write));
     cases
 }

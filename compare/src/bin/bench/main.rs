@@ -4,6 +4,7 @@
 
 mod by_hand;
 mod by_hand_all;
+mod by_hand_file;
 mod calls;
 mod cases;
 mod clock;
@@ -60,7 +61,7 @@ fn measure_all() {
     if overflow_checked() {
         println!("By hand and NetBack were built with overflow checks, the library has none.\n");
     }
-    let known = "case | text | slots | gaps | spans | call | rows or total | library | by hand | ratio";
+    let known = "case | text | slots | gaps | spans | call | rows, total or bytes | library | by hand | ratio";
     println!("| {known} | NetBack | times | NetBack, one visit | times |");
     println!("|{}", "---|".repeat(14));
     let mut all = Vec::new();

@@ -1,6 +1,6 @@
 //! Whether the targets hold.
 
-use crate::calls::{fail, library, Call};
+use crate::calls::{fail, library, room, Call};
 use crate::cases::{cases, Case, Measured, Rival, Rivals, LIMIT_MS};
 use crate::clock::rivals;
 use crate::texts::{Kind, Spans, WORDS};
@@ -66,7 +66,8 @@ fn against_count() -> Vec<Figure> {
             let case = Case { kind, slots, high, spans, call: Call::Front };
             let (mut ready, rows) = case.compared(WORDS);
             let (pattern, text) = (ready.pattern, ready.text.clone());
-            let count = || library(Call::Count, &pattern, &text, &mut []);
+            let mut lists = room(Call::Count, &pattern, &text);
+            let mut count = || library(Call::Count, &pattern, &text, &mut lists);
             if count() != rows {
                 fail(&format!("list and count differ: {}", case.describe()));
             }
@@ -85,7 +86,7 @@ fn against_plain() -> Vec<Figure> {
         };
         let (mut ready, value) = case.compared(WORDS);
         let (mut plain, expected) = Case { kind: Kind::Plain(listed), ..case }.compared(WORDS);
-        if value != expected || ready.list != plain.list {
+        if value != expected || ready.lists != plain.lists {
             fail(&format!("excluding and plain slots differ: {}", case.describe()));
         }
         figures.push((rivals(|| ready.library(), || plain.library()).ratio, case));

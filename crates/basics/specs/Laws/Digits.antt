@@ -1,7 +1,7 @@
 -- The digits of a number: the last one apart, and how many there are. Assumes nothing.
 use Prim.Native.Nat.{ℕ, zero, suc, _+_, _/_, _%_, _≤_, _<_}
 use native.Mathlib.Omega.{arith}
-use mathlib.Core.Path.{_≡_, ap}
+use mathlib.Core.Path.{_≡_, _∙_, ap}
 use mathlib.Core.Bool.{Bool, true, false}
 use mathlib.Core.List.{List, [], _∷_, _++_}
 use lib.Dec.{ltb}
@@ -15,6 +15,17 @@ pub digits-room : (f n : ℕ) → n < ten f → digitsIn f n ≡ digitsIn (suc f
 unfolding digitsIn
 digits-room zero n h = rw (lt-ltb n 10 h)
 digits-room (suc f) n h = ap (λ (l : List ℕ). pick (ltb n 10) ((48 + n) ∷ []) (l ++ ((48 + n % 10) ∷ []))) (digits-room f (n / 10) (omega arith))
+
+-- however much
+digits-below : (k f n : ℕ) → n < ten f → n < ten (k + f)
+digits-below zero f n h = let e : 0 + f ≡ f = omega arith in rw e h
+digits-below (suc k) f n h = let e : suc k + f ≡ suc (k + f) = omega arith in rw e (omega (arith, digits-below k f n h))
+
+pub digits-wide : (k f n : ℕ) → n < ten f → digitsIn f n ≡ digitsIn (k + f) n
+digits-wide zero f n h = let e : f ≡ 0 + f = omega arith in ap (λ (m : ℕ). digitsIn m n) e
+digits-wide (suc k) f n h =
+    let e : suc (k + f) ≡ suc k + f = omega arith in
+    digits-wide k f n h ∙ digits-room (k + f) n (digits-below k f n h) ∙ ap (λ (m : ℕ). digitsIn m n) e
 
 -- a number below ten is one digit
 pub one-digit : (n : ℕ) → n < 10 → digitsIn 19 n ≡ (48 + n) ∷ []

@@ -6,10 +6,10 @@ use lib.ListN.{length}
 use Rattle.pattern.specs.declared.Pattern.{Pattern}
 use Rattle.pattern.specs.Stated.{SameStated}
 use Rattle.pattern.specs.Laws.Stated.{input-same}
-use Rattle.matching.specs.Laws.Stated.{plain-same, occurrences-same}
+use Rattle.matching.specs.Laws.Stated.{same-occurrences}
 use Rattle.cursors.specs.declared.Cursors.{Cursors}
 use Rattle.cursors.specs.Machine.{nextVerdict, nextServed}
 
 pub next-same : {f g : Pattern} → SameStated f g → (s : Cursors) (client : ℕ) (t : List ℕ) → nextServed s client f t ≡ nextServed s client g t
 unfolding nextServed nextVerdict
-next-same same s client t = rw (input-same same (length t), occurrences-same same (plain-same same t), same .count)
+next-same same s client t = rw (input-same same (length t), same-occurrences same t, same .count)

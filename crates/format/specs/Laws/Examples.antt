@@ -1,13 +1,15 @@
--- Document 01's examples of the rows 10 to 13, fields of words with `!`, and the order of the tests where several rows apply. They
--- compute. Assumes nothing.
+-- Document 01's examples of the rows 10 to 13, fields of words with `!` and with repeats, files that are written, and the order of the tests
+-- where several rows apply. They compute. Assumes nothing.
 use Prim.Native.Nat.{ℕ, _≤_, _<_}
 use mathlib.Core.List.{List, [], _∷_, _++_, map}
 use mathlib.Core.Bool.{true, false}
 use mathlib.Core.Path.{_≡_, refl}
 use lib.ListN.{length, replicate}
 use borrow.Author.Tests.{le-ltb, lt-ltb}
+use Rattle.pattern.specs.declared.Pattern.{Pattern}
 use Rattle.pattern.specs.Patterns.{member}
-use Rattle.pattern.specs.Tests.{patternVerdict, slotVerdict, slotsVerdict, spanVerdict}
+use Rattle.pattern.specs.Words.{rises, canonical, sorted, inserted}
+use Rattle.pattern.specs.Tests.{limitsVerdict, patternVerdict, slotVerdict, slotsVerdict, spanVerdict}
 use Rattle.pattern.specs.declared.refusal.Refusal.the-variants.{FileLength, Gap, Names, SlotCount, Span, TextLength, Values, WordCount, WordListLength, ZeroWord}
 use Rattle.pattern.specs.declared.refusal.Verdict.the-variants.{Accepted}
 use Rattle.format.specs.Bytes.{allNumbers, decimal, ended, lines, more, parts, same, value}
@@ -18,7 +20,8 @@ use Rattle.format.specs.Texts.{textAnswer, textContents, textRead, textW
 use Rattle.format.specs.Patterns.{patternContents, patternAnswer, patternRead, refusedPattern, shownPattern, slotValues}
 use Rattle.format.specs.Input.{inputRead, refusedInput}
 use Rattle.basics.specs.Digits.{digitsIn}
-use Rattle.format.specs.Shown.{closed, digits, joined}
+use Rattle.format.specs.Shown.{closed, digits, joined, slotText}
+use Rattle.format.specs.Printed.{patternText, largestFile}
 use Rattle.format.specs.declared.texts.TextRead.the-variants.{Words}
 use Rattle.format.specs.declared.texts.TextRead.the-variants.{Refused as NoText}
 
@@ -51,6 +54,10 @@ file ls = closed (first ∷ wide ∷ names ∷ ls)
 -- a text file
 abbrev text : List (List ℕ) → List ℕ
 text ls = closed (wordName ∷ ls)
+
+-- eight words, two of which are the same
+eightWords : List ℕ
+eightWords = joined (map digits (1 ∷ 2 ∷ 3 ∷ 4 ∷ 5 ∷ 6 ∷ 7 ∷ 7 ∷ [])) 44
 
 -- nine words
 nineWords : List ℕ
@@ -96,7 +103,7 @@ row-11-marks = (refl, refl, refl, refl, refl, refl, refl)
 -- 2 and 3 where the words are excluded: nine of them; the word 0
 row-2-3-marks : (patternRead (file (listing (33 ∷ nineWords) ∷ [])) ≡ refusedPattern (WordCount 1))
     × (patternRead (file (slot 0 0 7 ∷ listing (33 ∷ digits 0) ∷ [])) ≡ refusedPattern (ZeroWord 2))
-unfolding nineWords patternRead patternContents lines ended parts column same decimal more value allNumbers slotValues wordParts scan closed joined digits digitsIn patternVerdict slotsVerdict slotVerdict spanVerdict member
+unfolding nineWords patternRead patternContents lines ended parts column same decimal more value allNumbers slotValues wordParts scan closed joined digits digitsIn patternVerdict limitsVerdict slotsVerdict slotVerdict spanVerdict rises canonical sorted inserted member
 row-2-3-marks = (refl, refl)
 
 -- 12: every file of 60,001 bytes, whatever it holds
@@ -128,7 +135,7 @@ texts-read = (refl, refl, refl, refl)
 -- names in another order: the values follow
 other-order : patternRead (closed (line (mostName ∷ leastName ∷ []) ∷ line (digits 9 ∷ digits 3 ∷ []) ∷ line (wordsName ∷ lowName ∷ highName ∷ []) ∷ line (digits 7 ∷ digits 0 ∷ digits 0 ∷ []) ∷ []))
     ≡ record { verdict = Accepted; pattern = shownPattern 3 9 (record { low = 0; high = 0; excluding = false; words = 7 ∷ [] } ∷ []) }
-unfolding patternRead patternContents lines ended parts column same decimal more value allNumbers slotValues wordParts scan closed joined digits digitsIn patternVerdict slotsVerdict slotVerdict spanVerdict member
+unfolding patternRead patternContents lines ended parts column same decimal more value allNumbers slotValues wordParts scan closed joined digits digitsIn patternVerdict limitsVerdict slotsVerdict slotVerdict spanVerdict rises canonical sorted inserted member
 other-order = refl
 
 -- `7`, `!12,15` and `!`: a plain slot, an excluding slot, and one that excludes no word
@@ -139,8 +146,33 @@ marks-read : patternRead (file (listing (digits 7) ∷ listing (33 ∷ joined (d
           ∷ record { low = 0; high = 0; excluding = true; words = 12 ∷ 15 ∷ [] }
           ∷ record { low = 0; high = 0; excluding = true; words = [] } ∷ []);
     }
-unfolding patternRead patternContents lines ended parts column same decimal more value allNumbers slotValues wordParts scan closed joined digits digitsIn patternVerdict slotsVerdict slotVerdict spanVerdict member
+unfolding patternRead patternContents lines ended parts column same decimal more value allNumbers slotValues wordParts scan closed joined digits digitsIn patternVerdict limitsVerdict slotsVerdict slotVerdict spanVerdict rises canonical sorted inserted member
 marks-read = refl
+
+-- `15,12,15` is read as the words 12 and 15, eight words of which two are the same as seven, and nine such words are 2
+repeats-read : (patternRead (file (listing (joined (digits 15 ∷ digits 12 ∷ digits 15 ∷ []) 44) ∷ [])) ≡ patternRead (file (listing (joined (digits 12 ∷ digits 15 ∷ []) 44) ∷ [])))
+    × (patternRead (file (listing (eightWords ++ 44 ∷ digits 1) ∷ [])) ≡ refusedPattern (WordCount 1))
+unfolding eightWords patternRead patternContents lines ended parts column same decimal more value allNumbers slotValues wordParts scan closed joined digits digitsIn patternVerdict limitsVerdict slotsVerdict slotVerdict spanVerdict rises canonical sorted inserted member
+repeats-read = (refl, refl)
+
+-- ---- what is written
+
+-- the pattern of `7` and `!15,12` with a gap of 0 to 1 before it, its words in order
+slots-written : patternText (shownPattern 1 20000 (record { low = 0; high = 0; excluding = false; words = 7 ∷ [] } ∷ record { low = 0; high = 1; excluding = true; words = 15 ∷ 12 ∷ [] } ∷ []))
+    ≡ file (slot 0 0 7 ∷ line (digits 0 ∷ digits 1 ∷ (33 ∷ joined (digits 12 ∷ digits 15 ∷ []) 44) ∷ []) ∷ [])
+unfolding patternText slotText closed joined digits digitsIn canonical sorted inserted
+slots-written = refl
+
+-- sixteen excluding slots of eight words of five digits, with wide gaps and span limits: its file has as many bytes as any
+largestPattern : Pattern
+largestPattern = shownPattern 10000 20000 (record { low = 0; high = 0; excluding = true; words = long } ∷ replicate 15 (record { low = 10; high = 63; excluding = true; words = long }))
+  where
+    long : List ℕ
+    long = 65528 ∷ 65529 ∷ 65530 ∷ 65531 ∷ 65532 ∷ 65533 ∷ 65534 ∷ 65535 ∷ []
+
+largest-written : (patternVerdict largestPattern ≡ Accepted) × (length (patternText largestPattern) ≡ largestFile)
+unfolding largestPattern patternText slotText closed joined digits digitsIn patternVerdict limitsVerdict slotsVerdict slotVerdict spanVerdict rises canonical sorted inserted member
+largest-written = (refl, refl)
 
 -- ---- the order of the tests
 
@@ -152,7 +184,7 @@ pattern-order : (patternRead (closed (first ∷ line (digits 0 ∷ digits 5 ∷ 
     × (patternRead (file (slot 0 0 7 ∷ slot 3 2 0 ∷ nine ∷ [])) ≡ refusedPattern (ZeroWord 2))
     × (patternRead (file (slot 0 0 7 ∷ slot 3 2 7 ∷ nine ∷ [])) ≡ refusedPattern (Gap 2))
     × (patternRead (closed (first ∷ line (digits 0 ∷ digits 5 ∷ []) ∷ names ∷ slot 0 0 7 ∷ [])) ≡ refusedPattern Span)
-unfolding nine nineWords patternRead patternContents lines ended parts column same decimal more value allNumbers slotValues wordParts scan closed joined digits digitsIn patternVerdict slotsVerdict slotVerdict spanVerdict member
+unfolding nine nineWords patternRead patternContents lines ended parts column same decimal more value allNumbers slotValues wordParts scan closed joined digits digitsIn patternVerdict limitsVerdict slotsVerdict slotVerdict spanVerdict rises canonical sorted inserted member
 pattern-order = (refl, refl, refl, refl, refl, refl, refl)
 
 -- 11 before 6, and 6 before 13, of a text whose layout is good
@@ -168,5 +200,5 @@ both-long s e = rw e
 both-order : (inputRead (closed (first ∷ line (digits 0 ∷ digits 5 ∷ []) ∷ names ∷ slot 0 0 7 ∷ [])) wordName 0 ≡ refusedInput Span)
     × (inputRead (file (slot 0 0 7 ∷ [])) wordName 0 ≡ refusedInput (Names 1))
     × (inputRead (file (slot 0 0 7 ∷ [])) (text (digits 7 ∷ [])) 0 ≡ refusedInput WordListLength)
-unfolding inputRead textRead textContents patternRead patternContents lines ended parts column same decimal more value allNumbers slotValues wordParts scan closed joined digits digitsIn patternVerdict slotsVerdict slotVerdict spanVerdict member
+unfolding inputRead textRead textContents patternRead patternContents lines ended parts column same decimal more value allNumbers slotValues wordParts scan closed joined digits digitsIn patternVerdict limitsVerdict slotsVerdict slotVerdict spanVerdict rises canonical sorted inserted member
 both-order = (refl, refl, refl)

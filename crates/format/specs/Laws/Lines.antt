@@ -2,7 +2,7 @@
 use Prim.Native.Nat.{ℕ, zero, suc, _+_, _/_, _%_, _<_}
 use native.Mathlib.Omega.{arith}
 use mathlib.Core.Bool.{Bool, true, false}
-use mathlib.Core.List.{List, [], _∷_, _++_, map}
+use mathlib.Core.List.{List, [], _∷_, _++_, map, append-assoc}
 use mathlib.Core.Path.{_≡_, refl, sym, _∙_, ap, subst}
 use lib.Dec.{eqb, ltb}
 use lib.ListN.{length}
@@ -56,6 +56,12 @@ lines-line : {l : List ℕ} → Free 10 l → (t : List ℕ) → lines (l ++ 10 
 unfolding lines
 lines-line free-none t = refl
 lines-line (free-also {b = b} h f) t = rw (ne-eqb b 10 h, lines-line f t)
+
+-- lines one after the other
+pub closed-append : (ls ms : List (List ℕ)) → closed (ls ++ ms) ≡ closed ls ++ closed ms
+unfolding closed
+closed-append [] ms = refl
+closed-append (l ∷ ls) ms = ap (λ (s : List ℕ). l ++ 10 ∷ s) (closed-append ls ms) ∙ sym (append-assoc l (10 ∷ closed ls) (closed ms))
 
 ended-line : (l t : List ℕ) (p : ℕ) → ended (l ++ 10 ∷ t) p ≡ ended t 10
 unfolding ended

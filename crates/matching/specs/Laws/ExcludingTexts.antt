@@ -7,7 +7,8 @@ use Rattle.basics.specs.Choice.{only}
 use Rattle.basics.specs.Collections.{keep, select}
 use Rattle.basics.specs.Sums.{gather}
 use Rattle.pattern.specs.Patterns.{member, takes}
-use Rattle.pattern.specs.Tests.{slotVerdict, slotsVerdict, spanVerdict, patternVerdict, inputVerdict}
+use Rattle.pattern.specs.Words.{rises}
+use Rattle.pattern.specs.Tests.{slotVerdict, slotsVerdict, spanVerdict, limitsVerdict, patternVerdict, inputVerdict}
 use Rattle.matching.specs.Occurrence.{plain, Occurs}
 use Rattle.matching.specs.Occurrences.{within, each, unbroken, occursIn, places, occurrences}
 use Rattle.matching.specs.Rows.{before, meet, join}
@@ -31,7 +32,7 @@ compared : Results pattern-compared text-compared
     ((1 ∷ 2 ∷ 3 ∷ []) ∷ (5 ∷ 6 ∷ 7 ∷ []) ∷ [])
     ((1 ∷ 2 ∷ 3 ∷ []) ∷ (5 ∷ 6 ∷ 7 ∷ []) ∷ [])
     2 2
-unfolding pattern-compared text-compared patternOf oneWord anyBut inputVerdict patternVerdict slotsVerdict slotVerdict spanVerdict member follow onward earliestOf latestOf extreme nearest select keep before each meet join
+unfolding pattern-compared text-compared patternOf oneWord anyBut inputVerdict patternVerdict limitsVerdict slotsVerdict slotVerdict spanVerdict rises member follow onward earliestOf latestOf extreme nearest select keep before each meet join
 compared = results hits-compared refl refl refl refl refl
 
 compared-not : Occurs pattern-compared text-compared (3 ∷ 4 ∷ 5 ∷ []) → ⊥
@@ -47,7 +48,7 @@ shared : Results pattern-shared text-shared
     ((1 ∷ 2 ∷ 3 ∷ []) ∷ [])
     ((1 ∷ 3 ∷ 5 ∷ []) ∷ [])
     1 2
-unfolding pattern-shared text-shared patternOf oneWord anyBut inputVerdict patternVerdict slotsVerdict slotVerdict spanVerdict member follow onward earliestOf latestOf extreme nearest select keep before each meet join
+unfolding pattern-shared text-shared patternOf oneWord anyBut inputVerdict patternVerdict limitsVerdict slotsVerdict slotVerdict spanVerdict rises member follow onward earliestOf latestOf extreme nearest select keep before each meet join
 shared = results hits-shared refl refl refl refl refl
 
 shared-not : Occurs pattern-shared text-shared (3 ∷ 4 ∷ 5 ∷ []) → ⊥
@@ -63,7 +64,7 @@ beside : Results pattern-next text-beside
     ((4 ∷ 5 ∷ []) ∷ [])
     ((4 ∷ 5 ∷ []) ∷ [])
     1 1
-unfolding pattern-next text-beside patternOf oneWord anyBut inputVerdict patternVerdict slotsVerdict slotVerdict spanVerdict member follow onward earliestOf latestOf extreme nearest select keep before each meet join
+unfolding pattern-next text-beside patternOf oneWord anyBut inputVerdict patternVerdict limitsVerdict slotsVerdict slotVerdict spanVerdict rises member follow onward earliestOf latestOf extreme nearest select keep before each meet join
 beside = results hits-beside refl refl refl refl refl
 
 beside-not : Occurs pattern-next text-beside (1 ∷ 2 ∷ []) → ⊥
@@ -75,7 +76,7 @@ unfolding pattern-near text-past patternOf oneWord anyBut forest tree gather pla
 hits-past = occurrences-each pattern-near (plain pattern-near text-past) (lit≤ tt) (lit≤ tt)
 
 past : Results pattern-near text-past [] [] [] 0 0
-unfolding pattern-near text-past patternOf oneWord anyBut inputVerdict patternVerdict slotsVerdict slotVerdict spanVerdict member follow onward earliestOf latestOf extreme nearest select keep before each meet join
+unfolding pattern-near text-past patternOf oneWord anyBut inputVerdict patternVerdict limitsVerdict slotsVerdict slotVerdict spanVerdict rises member follow onward earliestOf latestOf extreme nearest select keep before each meet join
 past = results hits-past refl refl refl refl refl
 
 past-not : Occurs pattern-near text-past (1 ∷ 3 ∷ []) → ⊥
@@ -91,7 +92,7 @@ every : Results pattern-every text-every
     ((1 ∷ []) ∷ (2 ∷ []) ∷ (4 ∷ []) ∷ [])
     ((1 ∷ []) ∷ (2 ∷ []) ∷ (4 ∷ []) ∷ [])
     3 3
-unfolding pattern-every text-every patternOf anyBut inputVerdict patternVerdict slotsVerdict slotVerdict spanVerdict member follow onward earliestOf latestOf extreme nearest select keep before each meet join
+unfolding pattern-every text-every patternOf anyBut inputVerdict patternVerdict limitsVerdict slotsVerdict slotVerdict spanVerdict rises member follow onward earliestOf latestOf extreme nearest select keep before each meet join
 every = results hits-every refl refl refl refl refl
 
 every-not : Occurs pattern-every text-every (3 ∷ []) → ⊥
@@ -107,7 +108,7 @@ sentence : Results pattern-in-a-row text-sentence
     ((2 ∷ 3 ∷ 4 ∷ []) ∷ [])
     ((2 ∷ 3 ∷ 4 ∷ []) ∷ [])
     1 1
-unfolding pattern-in-a-row text-sentence patternOf anyBut inputVerdict patternVerdict slotsVerdict slotVerdict spanVerdict member follow onward earliestOf latestOf extreme nearest select keep before each meet join
+unfolding pattern-in-a-row text-sentence patternOf anyBut inputVerdict patternVerdict limitsVerdict slotsVerdict slotVerdict spanVerdict rises member follow onward earliestOf latestOf extreme nearest select keep before each meet join
 sentence = results hits-sentence refl refl refl refl refl
 
 sentence-not : Occurs pattern-in-a-row text-sentence (3 ∷ 4 ∷ 5 ∷ []) → ⊥
@@ -119,7 +120,7 @@ unfolding pattern-without-b text-fitting patternOf oneWord anyBut forest tree ga
 hits-without = occurrences-each pattern-without-b (plain pattern-without-b text-fitting) (lit≤ tt) (lit≤ tt)
 
 without : Results pattern-without-b text-fitting [] [] [] 0 0
-unfolding pattern-without-b text-fitting patternOf oneWord anyBut inputVerdict patternVerdict slotsVerdict slotVerdict spanVerdict member follow onward earliestOf latestOf extreme nearest select keep before each meet join
+unfolding pattern-without-b text-fitting patternOf oneWord anyBut inputVerdict patternVerdict limitsVerdict slotsVerdict slotVerdict spanVerdict rises member follow onward earliestOf latestOf extreme nearest select keep before each meet join
 without = results hits-without refl refl refl refl refl
 
 without-not : Occurs pattern-without-b text-fitting (1 ∷ 2 ∷ 3 ∷ []) → ⊥
@@ -135,7 +136,7 @@ spared : Results pattern-without-x text-fitting
     ((1 ∷ 2 ∷ 3 ∷ []) ∷ [])
     ((1 ∷ 2 ∷ 3 ∷ []) ∷ [])
     1 1
-unfolding pattern-without-x text-fitting patternOf oneWord anyBut inputVerdict patternVerdict slotsVerdict slotVerdict spanVerdict member follow onward earliestOf latestOf extreme nearest select keep before each meet join
+unfolding pattern-without-x text-fitting patternOf oneWord anyBut inputVerdict patternVerdict limitsVerdict slotsVerdict slotVerdict spanVerdict rises member follow onward earliestOf latestOf extreme nearest select keep before each meet join
 spared = results hits-spared refl refl refl refl refl
 
 pub excluding-texts : ExcludingTexts

@@ -7,7 +7,8 @@ use Rattle.basics.specs.Choice.{only}
 use Rattle.basics.specs.Collections.{keep, select}
 use Rattle.basics.specs.Sums.{gather}
 use Rattle.pattern.specs.Patterns.{member, takes}
-use Rattle.pattern.specs.Tests.{slotVerdict, slotsVerdict, spanVerdict, patternVerdict, inputVerdict}
+use Rattle.pattern.specs.Words.{rises}
+use Rattle.pattern.specs.Tests.{slotVerdict, slotsVerdict, spanVerdict, limitsVerdict, patternVerdict, inputVerdict}
 use Rattle.matching.specs.Occurrence.{plain, Occurs}
 use Rattle.matching.specs.Occurrences.{within, each, unbroken, occursIn, places, occurrences}
 use Rattle.matching.specs.Rows.{before, meet, join}
@@ -27,7 +28,7 @@ unfolding pattern-pair text-parted patternOf oneWord forest tree gather places b
 hits-parted = occurrences-each pattern-pair (plain pattern-pair text-parted) (lit≤ tt) (lit≤ tt)
 
 parted : Results pattern-pair text-parted [] [] [] 0 0
-unfolding pattern-pair text-parted patternOf oneWord inputVerdict patternVerdict slotsVerdict slotVerdict spanVerdict member follow onward earliestOf latestOf extreme nearest select keep before each meet join
+unfolding pattern-pair text-parted patternOf oneWord inputVerdict patternVerdict limitsVerdict slotsVerdict slotVerdict spanVerdict rises member follow onward earliestOf latestOf extreme nearest select keep before each meet join
 parted = results hits-parted refl refl refl refl refl
 
 parted-not : Occurs pattern-pair text-parted (2 ∷ 4 ∷ []) → ⊥
@@ -43,7 +44,7 @@ whole : Results pattern-pair text-whole
     ((2 ∷ 3 ∷ []) ∷ [])
     ((2 ∷ 3 ∷ []) ∷ [])
     1 1
-unfolding pattern-pair text-whole patternOf oneWord inputVerdict patternVerdict slotsVerdict slotVerdict spanVerdict member follow onward earliestOf latestOf extreme nearest select keep before each meet join
+unfolding pattern-pair text-whole patternOf oneWord inputVerdict patternVerdict limitsVerdict slotsVerdict slotVerdict spanVerdict rises member follow onward earliestOf latestOf extreme nearest select keep before each meet join
 whole = results hits-whole refl refl refl refl refl
 
 hits-after-first : occurrences pattern-pair text-after-first ≡ []
@@ -51,7 +52,7 @@ unfolding pattern-pair text-after-first patternOf oneWord forest tree gather pla
 hits-after-first = occurrences-each pattern-pair (plain pattern-pair text-after-first) (lit≤ tt) (lit≤ tt)
 
 after-first : Results pattern-pair text-after-first [] [] [] 0 0
-unfolding pattern-pair text-after-first patternOf oneWord inputVerdict patternVerdict slotsVerdict slotVerdict spanVerdict member follow onward earliestOf latestOf extreme nearest select keep before each meet join
+unfolding pattern-pair text-after-first patternOf oneWord inputVerdict patternVerdict limitsVerdict slotsVerdict slotVerdict spanVerdict rises member follow onward earliestOf latestOf extreme nearest select keep before each meet join
 after-first = results hits-after-first refl refl refl refl refl
 
 after-first-not : Occurs pattern-pair text-after-first (1 ∷ 4 ∷ []) → ⊥
@@ -63,7 +64,7 @@ unfolding pattern-pair text-before-last patternOf oneWord forest tree gather pla
 hits-before-last = occurrences-each pattern-pair (plain pattern-pair text-before-last) (lit≤ tt) (lit≤ tt)
 
 before-last : Results pattern-pair text-before-last [] [] [] 0 0
-unfolding pattern-pair text-before-last patternOf oneWord inputVerdict patternVerdict slotsVerdict slotVerdict spanVerdict member follow onward earliestOf latestOf extreme nearest select keep before each meet join
+unfolding pattern-pair text-before-last patternOf oneWord inputVerdict patternVerdict limitsVerdict slotsVerdict slotVerdict spanVerdict rises member follow onward earliestOf latestOf extreme nearest select keep before each meet join
 before-last = results hits-before-last refl refl refl refl refl
 
 before-last-not : Occurs pattern-pair text-before-last (1 ∷ 4 ∷ []) → ⊥
@@ -75,7 +76,7 @@ unfolding pattern-pair text-two-stops patternOf oneWord forest tree gather place
 hits-two-stops = occurrences-each pattern-pair (plain pattern-pair text-two-stops) (lit≤ tt) (lit≤ tt)
 
 two-stops : Results pattern-pair text-two-stops [] [] [] 0 0
-unfolding pattern-pair text-two-stops patternOf oneWord inputVerdict patternVerdict slotsVerdict slotVerdict spanVerdict member follow onward earliestOf latestOf extreme nearest select keep before each meet join
+unfolding pattern-pair text-two-stops patternOf oneWord inputVerdict patternVerdict limitsVerdict slotsVerdict slotVerdict spanVerdict rises member follow onward earliestOf latestOf extreme nearest select keep before each meet join
 two-stops = results hits-two-stops refl refl refl refl refl
 
 two-stops-not : Occurs pattern-pair text-two-stops (1 ∷ 5 ∷ []) → ⊥
@@ -91,7 +92,7 @@ empty-sentence : Results pattern-pair text-empty-sentence
     ((4 ∷ 5 ∷ []) ∷ [])
     ((4 ∷ 5 ∷ []) ∷ [])
     1 1
-unfolding pattern-pair text-empty-sentence patternOf oneWord inputVerdict patternVerdict slotsVerdict slotVerdict spanVerdict member follow onward earliestOf latestOf extreme nearest select keep before each meet join
+unfolding pattern-pair text-empty-sentence patternOf oneWord inputVerdict patternVerdict limitsVerdict slotsVerdict slotVerdict spanVerdict rises member follow onward earliestOf latestOf extreme nearest select keep before each meet join
 empty-sentence = results hits-empty-sentence refl refl refl refl refl
 
 empty-sentence-not : Occurs pattern-pair text-empty-sentence (1 ∷ 5 ∷ []) → ⊥
@@ -107,7 +108,7 @@ outside : Results pattern-pair text-outside
     ((2 ∷ 4 ∷ []) ∷ [])
     ((2 ∷ 4 ∷ []) ∷ [])
     1 1
-unfolding pattern-pair text-outside patternOf oneWord inputVerdict patternVerdict slotsVerdict slotVerdict spanVerdict member follow onward earliestOf latestOf extreme nearest select keep before each meet join
+unfolding pattern-pair text-outside patternOf oneWord inputVerdict patternVerdict limitsVerdict slotsVerdict slotVerdict spanVerdict rises member follow onward earliestOf latestOf extreme nearest select keep before each meet join
 outside = results hits-outside refl refl refl refl refl
 
 hits-later : occurrences pattern-pair text-later ≡ (3 ∷ 4 ∷ []) ∷ []
@@ -119,7 +120,7 @@ later : Results pattern-pair text-later
     ((3 ∷ 4 ∷ []) ∷ [])
     ((3 ∷ 4 ∷ []) ∷ [])
     1 1
-unfolding pattern-pair text-later patternOf oneWord inputVerdict patternVerdict slotsVerdict slotVerdict spanVerdict member follow onward earliestOf latestOf extreme nearest select keep before each meet join
+unfolding pattern-pair text-later patternOf oneWord inputVerdict patternVerdict limitsVerdict slotsVerdict slotVerdict spanVerdict rises member follow onward earliestOf latestOf extreme nearest select keep before each meet join
 later = results hits-later refl refl refl refl refl
 
 later-not : Occurs pattern-pair text-later (1 ∷ 4 ∷ []) → ⊥
@@ -135,7 +136,7 @@ later-open : Results pattern-pair text-later-open
     ((1 ∷ 4 ∷ []) ∷ [])
     ((3 ∷ 4 ∷ []) ∷ [])
     1 2
-unfolding pattern-pair text-later-open patternOf oneWord inputVerdict patternVerdict slotsVerdict slotVerdict spanVerdict member follow onward earliestOf latestOf extreme nearest select keep before each meet join
+unfolding pattern-pair text-later-open patternOf oneWord inputVerdict patternVerdict limitsVerdict slotsVerdict slotVerdict spanVerdict rises member follow onward earliestOf latestOf extreme nearest select keep before each meet join
 later-open = results hits-later-open refl refl refl refl refl
 
 hits-several : occurrences pattern-triple text-several ≡ (1 ∷ 3 ∷ 5 ∷ []) ∷ (1 ∷ 4 ∷ 5 ∷ []) ∷ (2 ∷ 3 ∷ 5 ∷ []) ∷ (2 ∷ 4 ∷ 5 ∷ []) ∷ (9 ∷ 10 ∷ 11 ∷ []) ∷ []
@@ -147,7 +148,7 @@ several : Results pattern-triple text-several
     ((1 ∷ 3 ∷ 5 ∷ []) ∷ (9 ∷ 10 ∷ 11 ∷ []) ∷ [])
     ((2 ∷ 4 ∷ 5 ∷ []) ∷ (9 ∷ 10 ∷ 11 ∷ []) ∷ [])
     2 5
-unfolding pattern-triple text-several patternOf oneWord inputVerdict patternVerdict slotsVerdict slotVerdict spanVerdict member follow onward earliestOf latestOf extreme nearest select keep before each meet join
+unfolding pattern-triple text-several patternOf oneWord inputVerdict patternVerdict limitsVerdict slotsVerdict slotVerdict spanVerdict rises member follow onward earliestOf latestOf extreme nearest select keep before each meet join
 several = results hits-several refl refl refl refl refl
 
 several-not : Occurs pattern-triple text-several (2 ∷ 4 ∷ 7 ∷ []) → ⊥
@@ -163,7 +164,7 @@ several-open : Results pattern-triple text-several-open
     ((1 ∷ 3 ∷ 5 ∷ []) ∷ (2 ∷ 4 ∷ 7 ∷ []) ∷ (9 ∷ 10 ∷ 11 ∷ []) ∷ [])
     ((1 ∷ 3 ∷ 5 ∷ []) ∷ (2 ∷ 4 ∷ 7 ∷ []) ∷ (9 ∷ 10 ∷ 11 ∷ []) ∷ [])
     3 7
-unfolding pattern-triple text-several-open patternOf oneWord inputVerdict patternVerdict slotsVerdict slotVerdict spanVerdict member follow onward earliestOf latestOf extreme nearest select keep before each meet join
+unfolding pattern-triple text-several-open patternOf oneWord inputVerdict patternVerdict limitsVerdict slotsVerdict slotVerdict spanVerdict rises member follow onward earliestOf latestOf extreme nearest select keep before each meet join
 several-open = results hits-several-open refl refl refl refl refl
 
 hits-spanned : occurrences pattern-spanned text-spanned ≡ (1 ∷ 3 ∷ 4 ∷ []) ∷ (6 ∷ 7 ∷ 9 ∷ []) ∷ []
@@ -175,7 +176,7 @@ spanned : Results pattern-spanned text-spanned
     ((1 ∷ 3 ∷ 4 ∷ []) ∷ (6 ∷ 7 ∷ 9 ∷ []) ∷ [])
     ((1 ∷ 3 ∷ 4 ∷ []) ∷ (6 ∷ 7 ∷ 9 ∷ []) ∷ [])
     2 2
-unfolding pattern-spanned text-spanned patternOf oneWord inputVerdict patternVerdict slotsVerdict slotVerdict spanVerdict member follow onward earliestOf latestOf extreme nearest select keep before each meet join
+unfolding pattern-spanned text-spanned patternOf oneWord inputVerdict patternVerdict limitsVerdict slotsVerdict slotVerdict spanVerdict rises member follow onward earliestOf latestOf extreme nearest select keep before each meet join
 spanned = results hits-spanned refl refl refl refl refl
 
 spanned-not : Occurs pattern-spanned text-spanned (10 ∷ 11 ∷ 13 ∷ []) → ⊥
@@ -191,7 +192,7 @@ inner : Results pattern-inner text-inner
     ((5 ∷ 6 ∷ 7 ∷ 8 ∷ []) ∷ [])
     ((5 ∷ 6 ∷ 7 ∷ 8 ∷ []) ∷ [])
     1 1
-unfolding pattern-inner text-inner patternOf oneWord inputVerdict patternVerdict slotsVerdict slotVerdict spanVerdict member follow onward earliestOf latestOf extreme nearest select keep before each meet join
+unfolding pattern-inner text-inner patternOf oneWord inputVerdict patternVerdict limitsVerdict slotsVerdict slotVerdict spanVerdict rises member follow onward earliestOf latestOf extreme nearest select keep before each meet join
 inner = results hits-inner refl refl refl refl refl
 
 inner-not : Occurs pattern-inner text-inner (1 ∷ 2 ∷ 4 ∷ 5 ∷ []) → ⊥
@@ -207,7 +208,7 @@ single : Results pattern-single text-single
     ((2 ∷ []) ∷ (4 ∷ []) ∷ (5 ∷ []) ∷ [])
     ((2 ∷ []) ∷ (4 ∷ []) ∷ (5 ∷ []) ∷ [])
     3 3
-unfolding pattern-single text-single patternOf oneWord inputVerdict patternVerdict slotsVerdict slotVerdict spanVerdict member follow onward earliestOf latestOf extreme nearest select keep before each meet join
+unfolding pattern-single text-single patternOf oneWord inputVerdict patternVerdict limitsVerdict slotsVerdict slotVerdict spanVerdict rises member follow onward earliestOf latestOf extreme nearest select keep before each meet join
 single = results hits-single refl refl refl refl refl
 
 pub sentence-texts : SentenceTexts

@@ -1,5 +1,5 @@
--- Entries past the stated number of slots or words are not looked at: patterns that state the same have the same occurrences, so the
--- searches, the lists and the calls answer the same for them.
+-- Patterns that agree have the same occurrences in every text, and so the same searches and lists. Where they state the same, the calls
+-- answer the same for them: entries past the stated number of slots or words are not looked at.
 use Prim.Native.Nat.{ℕ, _+_, _-_, _<_}
 use native.Mathlib.Omega.{arith}
 use mathlib.Core.Path.{_≡_, refl, fun-ext}
@@ -10,9 +10,11 @@ use Rattle.pattern.specs.declared.refusal.Verdict.{Verdict}
 use Rattle.pattern.specs.Patterns.{slotAt}
 use Rattle.pattern.specs.Tests.{inputVerdict}
 use Rattle.pattern.specs.Stated.{SameStated}
-use Rattle.pattern.specs.Laws.Stated.{takes-same, input-same}
+use Rattle.pattern.specs.Agree.{Agree}
+use Rattle.pattern.specs.Laws.Stated.{input-same}
+use Rattle.pattern.specs.Laws.Agree.{agree-takes, same-agree}
 use Rattle.matching.specs.Occurrence.{View, plain, at, wordAt}
-use Rattle.matching.specs.Occurrences.{within, occursIn, occurrencesIn, occurrences}
+use Rattle.matching.specs.Occurrences.{within, occursIn, occurs, occurrencesIn, occurrences}
 use Rattle.matching.specs.Lists.{leftmostIn, rightmostIn, leftmost, rightmost}
 use Rattle.matching.specs.Answers.{rowVerdict, firstAfter, lastBefore, listed, filled, frontListed, frontWritten, backListed, backWritten, counted}
 use Rattle.matching.specs.Laws.Tests.{each-same}
@@ -23,9 +25,9 @@ pub record SameView (m : ℕ) (v w : View) : Type 0 where
   pub fits : (j : ℕ) → j < m → (p : ℕ) → v .fits j p ≡ w .fits j p
   pub ends : (p : ℕ) → v .ends p ≡ w .ends p
 
-module _ {f g : Pattern} (same : SameStated f g) where
+module _ {f g : Pattern} (same : Agree f g) where
   pub plain-same : (t : List ℕ) → SameView (f .count) (plain f t) (plain g t)
-  plain-same t = record { places = refl; fits = λ j h p. takes-same (same .slot j h) (wordAt t p); ends = λ p. refl }
+  plain-same t = record { places = refl; fits = λ j h p. agree-takes (same .slot j h) (wordAt t p); ends = λ p. refl }
 
   module _ {v w : View} (alike : SameView (f .count) v w) where
     pub occurs-same : (r : List ℕ) → occursIn f v r ≡ occursIn g w r
@@ -53,32 +55,48 @@ module _ {f g : Pattern} (same : SameStated f g) where
     unfolding rightmostIn
     rightmost-same = rw (occurrences-same, same .count, alike .places)
 
-  -- ---- what the calls answer for a text
+  -- the occurrences in a text
+  pub agree-occurrences : (t : List ℕ) → occurrences f t ≡ occurrences g t
+  agree-occurrences t = occurrences-same (plain-same t)
 
-  module _ (t : List ℕ) where
-    pub row-same : (row : List ℕ) → rowVerdict f t row ≡ rowVerdict g t row
-    unfolding rowVerdict
-    row-same row = rw (input-same same (length t), same .count)
+-- ---- what the calls answer for a text
 
-    pub first-same : (marks : List ℕ) → firstAfter f t marks ≡ firstAfter g t marks
-    first-same marks = rw (row-same marks, occurrences-same (plain-same t), same .count)
+module _ {f g : Pattern} (same : SameStated f g) (t : List ℕ) where
+  pub same-occurs : (r : List ℕ) → occurs f t r ≡ occurs g t r
+  same-occurs r = occurs-same (same-agree same) (plain-same (same-agree same) t) r
 
-    pub last-same : (marks : List ℕ) → lastBefore f t marks ≡ lastBefore g t marks
-    last-same marks = rw (row-same marks, occurrences-same (plain-same t), same .count)
+  pub same-occurrences : occurrences f t ≡ occurrences g t
+  same-occurrences = agree-occurrences (same-agree same) t
 
-    -- whatever is made of the verdict, the number of slots and the three lists of rows
-    pub answers-same : {A : Type 0} (answer : Verdict → ℕ → List (List ℕ) → List (List ℕ) → List (List ℕ) → A)
-        → answer (inputVerdict f (length t)) (f .count) (occurrences f t) (leftmost f t) (rightmost f t)
-        ≡ answer (inputVerdict g (length t)) (g .count) (occurrences g t) (leftmost g t) (rightmost g t)
-    answers-same answer =
-        rw (leftmost-same (plain-same t), rightmost-same (plain-same t), occurrences-same (plain-same t), input-same same (length t), same .count)
+  same-leftmost : leftmost f t ≡ leftmost g t
+  same-leftmost = leftmost-same (same-agree same) (plain-same (same-agree same) t)
 
-    -- the answer of the front list's call, and what the caller's list l then holds; the same of the back list; the count
-    pub front-same : (l : List ℕ) → (frontListed f t (length l) ≡ frontListed g t (length l)) × (frontWritten f t l ≡ frontWritten g t l)
-    front-same l = (answers-same (λ v m H F B. listed v m F (length l)), answers-same (λ v m H F B. filled v m F l))
+  same-rightmost : rightmost f t ≡ rightmost g t
+  same-rightmost = rightmost-same (same-agree same) (plain-same (same-agree same) t)
 
-    pub back-same : (l : List ℕ) → (backListed f t (length l) ≡ backListed g t (length l)) × (backWritten f t l ≡ backWritten g t l)
-    back-same l = (answers-same (λ v m H F B. listed v m B (length l)), answers-same (λ v m H F B. filled v m B l))
+  pub row-same : (row : List ℕ) → rowVerdict f t row ≡ rowVerdict g t row
+  unfolding rowVerdict
+  row-same row = rw (input-same same (length t), same .count)
 
-    pub count-same : counted (inputVerdict f (length t)) (leftmost f t) ≡ counted (inputVerdict g (length t)) (leftmost g t)
-    count-same = answers-same (λ v m H F B. counted v F)
+  pub first-same : (marks : List ℕ) → firstAfter f t marks ≡ firstAfter g t marks
+  first-same marks = rw (row-same marks, same-occurrences, same .count)
+
+  pub last-same : (marks : List ℕ) → lastBefore f t marks ≡ lastBefore g t marks
+  last-same marks = rw (row-same marks, same-occurrences, same .count)
+
+  -- whatever is made of the verdict, the number of slots and the three lists of rows
+  pub answers-same : {A : Type 0} (answer : Verdict → ℕ → List (List ℕ) → List (List ℕ) → List (List ℕ) → A)
+      → answer (inputVerdict f (length t)) (f .count) (occurrences f t) (leftmost f t) (rightmost f t)
+      ≡ answer (inputVerdict g (length t)) (g .count) (occurrences g t) (leftmost g t) (rightmost g t)
+  answers-same answer =
+      rw (same-leftmost, same-rightmost, same-occurrences, input-same same (length t), same .count)
+
+  -- the answer of the front list's call, and what the caller's list l then holds; the same of the back list; the count
+  pub front-same : (l : List ℕ) → (frontListed f t (length l) ≡ frontListed g t (length l)) × (frontWritten f t l ≡ frontWritten g t l)
+  front-same l = (answers-same (λ v m H F B. listed v m F (length l)), answers-same (λ v m H F B. filled v m F l))
+
+  pub back-same : (l : List ℕ) → (backListed f t (length l) ≡ backListed g t (length l)) × (backWritten f t l ≡ backWritten g t l)
+  back-same l = (answers-same (λ v m H F B. listed v m B (length l)), answers-same (λ v m H F B. filled v m B l))
+
+  pub count-same : counted (inputVerdict f (length t)) (leftmost f t) ≡ counted (inputVerdict g (length t)) (leftmost g t)
+  count-same = answers-same (λ v m H F B. counted v F)

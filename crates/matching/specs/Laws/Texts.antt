@@ -9,7 +9,8 @@ use lib.Dec.{lit≤}
 use Rattle.pattern.specs.declared.Pattern.{Pattern}
 use Rattle.pattern.specs.declared.refusal.Verdict.the-variants.{Accepted as Fine}
 use Rattle.pattern.specs.Patterns.{member, takes}
-use Rattle.pattern.specs.Tests.{slotVerdict, slotsVerdict, spanVerdict, patternVerdict, inputVerdict}
+use Rattle.pattern.specs.Words.{rises}
+use Rattle.pattern.specs.Tests.{slotVerdict, slotsVerdict, spanVerdict, limitsVerdict, patternVerdict, inputVerdict}
 use Rattle.pattern.specs.Accepted.{Accepted}
 use Rattle.pattern.specs.Laws.Accepting.{input-accepted}
 use Rattle.matching.specs.Occurrence.{plain, Occurs}
@@ -58,7 +59,7 @@ one : Results pattern-one text-one
     ((1 ∷ 3 ∷ 5 ∷ []) ∷ (5 ∷ 7 ∷ 8 ∷ []) ∷ [])
     ((1 ∷ 3 ∷ 5 ∷ []) ∷ (6 ∷ 7 ∷ 8 ∷ []) ∷ [])
     2 3
-unfolding pattern-one text-one patternOf oneWord inputVerdict patternVerdict slotsVerdict slotVerdict spanVerdict member follow onward earliestOf latestOf extreme nearest select keep before each meet join
+unfolding pattern-one text-one patternOf oneWord inputVerdict patternVerdict limitsVerdict slotsVerdict slotVerdict spanVerdict rises member follow onward earliestOf latestOf extreme nearest select keep before each meet join
 one = results hits-one refl refl refl refl refl
 
 hits-two : occurrences pattern-two text-one ≡ (1 ∷ 3 ∷ 5 ∷ []) ∷ (5 ∷ 7 ∷ 8 ∷ []) ∷ []
@@ -70,7 +71,7 @@ two : Results pattern-two text-one
     ((1 ∷ 3 ∷ 5 ∷ []) ∷ (5 ∷ 7 ∷ 8 ∷ []) ∷ [])
     ((1 ∷ 3 ∷ 5 ∷ []) ∷ (5 ∷ 7 ∷ 8 ∷ []) ∷ [])
     2 2
-unfolding pattern-two text-one patternOf oneWord inputVerdict patternVerdict slotsVerdict slotVerdict spanVerdict member follow onward earliestOf latestOf extreme nearest select keep before each meet join
+unfolding pattern-two text-one patternOf oneWord inputVerdict patternVerdict limitsVerdict slotsVerdict slotVerdict spanVerdict rises member follow onward earliestOf latestOf extreme nearest select keep before each meet join
 two = results hits-two refl refl refl refl refl
 
 hits-three : occurrences pattern-three text-three ≡ (2 ∷ 3 ∷ 5 ∷ []) ∷ (2 ∷ 4 ∷ 5 ∷ []) ∷ (5 ∷ 6 ∷ 7 ∷ []) ∷ []
@@ -82,7 +83,7 @@ three : Results pattern-three text-three
     ((2 ∷ 3 ∷ 5 ∷ []) ∷ (5 ∷ 6 ∷ 7 ∷ []) ∷ [])
     ((2 ∷ 4 ∷ 5 ∷ []) ∷ (5 ∷ 6 ∷ 7 ∷ []) ∷ [])
     2 3
-unfolding pattern-three text-three patternOf oneWord inputVerdict patternVerdict slotsVerdict slotVerdict spanVerdict member follow onward earliestOf latestOf extreme nearest select keep before each meet join
+unfolding pattern-three text-three patternOf oneWord inputVerdict patternVerdict limitsVerdict slotsVerdict slotVerdict spanVerdict rises member follow onward earliestOf latestOf extreme nearest select keep before each meet join
 three = results hits-three refl refl refl refl refl
 
 hits-four : occurrences pattern-four text-four ≡ (1 ∷ 3 ∷ 4 ∷ 8 ∷ []) ∷ (4 ∷ 5 ∷ 6 ∷ 8 ∷ []) ∷ (4 ∷ 5 ∷ 6 ∷ 9 ∷ []) ∷ (4 ∷ 5 ∷ 7 ∷ 9 ∷ []) ∷ []
@@ -94,7 +95,7 @@ four : Results pattern-four text-four
     ((1 ∷ 3 ∷ 4 ∷ 8 ∷ []) ∷ (4 ∷ 5 ∷ 6 ∷ 9 ∷ []) ∷ [])
     ((1 ∷ 3 ∷ 4 ∷ 8 ∷ []) ∷ (4 ∷ 5 ∷ 7 ∷ 9 ∷ []) ∷ [])
     2 4
-unfolding pattern-four text-four patternOf oneWord inputVerdict patternVerdict slotsVerdict slotVerdict spanVerdict member follow onward earliestOf latestOf extreme nearest select keep before each meet join
+unfolding pattern-four text-four patternOf oneWord inputVerdict patternVerdict limitsVerdict slotsVerdict slotVerdict spanVerdict rises member follow onward earliestOf latestOf extreme nearest select keep before each meet join
 four = results hits-four refl refl refl refl refl
 
 hits-five : occurrences pattern-five text-five ≡ (1 ∷ 2 ∷ 5 ∷ 7 ∷ []) ∷ (1 ∷ 4 ∷ 5 ∷ 7 ∷ []) ∷ (3 ∷ 4 ∷ 5 ∷ 7 ∷ []) ∷ (3 ∷ 6 ∷ 8 ∷ 9 ∷ []) ∷ (7 ∷ 10 ∷ 11 ∷ 12 ∷ []) ∷ (9 ∷ 10 ∷ 11 ∷ 12 ∷ []) ∷ (12 ∷ 13 ∷ 15 ∷ 16 ∷ []) ∷ (12 ∷ 14 ∷ 15 ∷ 16 ∷ []) ∷ []
@@ -106,7 +107,7 @@ five : Results pattern-five text-five
     ((1 ∷ 2 ∷ 5 ∷ 7 ∷ []) ∷ (3 ∷ 6 ∷ 8 ∷ 9 ∷ []) ∷ (7 ∷ 10 ∷ 11 ∷ 12 ∷ []) ∷ (12 ∷ 13 ∷ 15 ∷ 16 ∷ []) ∷ [])
     ((1 ∷ 4 ∷ 5 ∷ 7 ∷ []) ∷ (3 ∷ 6 ∷ 8 ∷ 9 ∷ []) ∷ (9 ∷ 10 ∷ 11 ∷ 12 ∷ []) ∷ (12 ∷ 14 ∷ 15 ∷ 16 ∷ []) ∷ [])
     4 8
-unfolding pattern-five text-five patternOf oneWord inputVerdict patternVerdict slotsVerdict slotVerdict spanVerdict member follow onward earliestOf latestOf extreme nearest select keep before each meet join
+unfolding pattern-five text-five patternOf oneWord inputVerdict patternVerdict limitsVerdict slotsVerdict slotVerdict spanVerdict rises member follow onward earliestOf latestOf extreme nearest select keep before each meet join
 five = results hits-five refl refl refl refl refl
 
 hits-six : occurrences pattern-six text-six ≡ (1 ∷ 2 ∷ 4 ∷ []) ∷ (1 ∷ 2 ∷ 6 ∷ []) ∷ (1 ∷ 3 ∷ 6 ∷ []) ∷ (1 ∷ 5 ∷ 8 ∷ []) ∷ (1 ∷ 5 ∷ 9 ∷ []) ∷ []
@@ -118,7 +119,7 @@ six : Results pattern-six text-six
     ((1 ∷ 2 ∷ 4 ∷ []) ∷ [])
     ((1 ∷ 5 ∷ 9 ∷ []) ∷ [])
     1 5
-unfolding pattern-six text-six patternOf oneWord inputVerdict patternVerdict slotsVerdict slotVerdict spanVerdict member follow onward earliestOf latestOf extreme nearest select keep before each meet join
+unfolding pattern-six text-six patternOf oneWord inputVerdict patternVerdict limitsVerdict slotsVerdict slotVerdict spanVerdict rises member follow onward earliestOf latestOf extreme nearest select keep before each meet join
 six = results hits-six refl refl refl refl refl
 
 hits-seven : occurrences pattern-seven text-seven ≡ (2 ∷ 3 ∷ 5 ∷ []) ∷ []
@@ -130,7 +131,7 @@ seven : Results pattern-seven text-seven
     ((2 ∷ 3 ∷ 5 ∷ []) ∷ [])
     ((2 ∷ 3 ∷ 5 ∷ []) ∷ [])
     1 1
-unfolding pattern-seven text-seven patternOf oneWord inputVerdict patternVerdict slotsVerdict slotVerdict spanVerdict member follow onward earliestOf latestOf extreme nearest select keep before each meet join
+unfolding pattern-seven text-seven patternOf oneWord inputVerdict patternVerdict limitsVerdict slotsVerdict slotVerdict spanVerdict rises member follow onward earliestOf latestOf extreme nearest select keep before each meet join
 seven = results hits-seven refl refl refl refl refl
 
 hits-eight : occurrences pattern-eight text-eight ≡ (1 ∷ 2 ∷ 4 ∷ []) ∷ []
@@ -142,7 +143,7 @@ eight : Results pattern-eight text-eight
     ((1 ∷ 2 ∷ 4 ∷ []) ∷ [])
     ((1 ∷ 2 ∷ 4 ∷ []) ∷ [])
     1 1
-unfolding pattern-eight text-eight patternOf oneWord inputVerdict patternVerdict slotsVerdict slotVerdict spanVerdict member follow onward earliestOf latestOf extreme nearest select keep before each meet join
+unfolding pattern-eight text-eight patternOf oneWord inputVerdict patternVerdict limitsVerdict slotsVerdict slotVerdict spanVerdict rises member follow onward earliestOf latestOf extreme nearest select keep before each meet join
 eight = results hits-eight refl refl refl refl refl
 
 two-not : Occurs pattern-two text-one (6 ∷ 7 ∷ 8 ∷ []) → ⊥

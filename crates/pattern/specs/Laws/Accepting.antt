@@ -2,22 +2,24 @@
 use Prim.Native.Nat.{ℕ, zero, suc, _+_, _≤_, _<_}
 use native.Mathlib.Omega.{arith}
 use native.Mathlib.Decide.{ℕ-discrete}
-use mathlib.Core.Path.{_≡_, refl}
+use mathlib.Core.Path.{_≡_, refl, ap}
 use mathlib.Core.Logic.{_↔_}
-use mathlib.Core.Bool.{Bool, true, false, true≢false}
+use mathlib.Core.Bool.{Bool, true, false, not, true≢false}
 use lib.Dec.{ltb, eqb}
-use borrow.Author.Tests.{ltb-false, le-ltb, eqb-false, ne-eqb, eq-eqb}
+use borrow.Author.Tests.{ltb-false, le-ltb, eqb-false, ne-eqb, eq-eqb, not-false}
 use Rattle.pattern.specs.declared.slot.Slot.{Slot}
 use Rattle.pattern.specs.declared.Pattern.{Pattern}
 use Rattle.pattern.specs.declared.refusal.Refusal.{Refusal}
-use Rattle.pattern.specs.declared.refusal.Refusal.the-variants.{SlotCount, WordCount, ZeroWord, Gap, Span, TextLength}
+use Rattle.pattern.specs.declared.refusal.Refusal.the-variants.{SlotCount, WordCount, ZeroWord, Gap, Span, TextLength, WordOrder}
 use Rattle.pattern.specs.declared.refusal.Verdict.{Verdict}
 use Rattle.pattern.specs.declared.refusal.Verdict.the-variants.{Refused}
 use Rattle.pattern.specs.declared.refusal.Verdict.the-variants.{Accepted as Fine}
 use Rattle.pattern.specs.Patterns.{stated, lists, taken, takes, slotAt}
-use Rattle.pattern.specs.Tests.{refuse, andThen, widestGap, fewestWords, slotVerdict, slotsVerdict, spanVerdict, patternVerdict, inputVerdict}
+use Rattle.pattern.specs.Words.{Rising, rises}
+use Rattle.pattern.specs.Tests.{refuse, andThen, widestGap, fewestWords, slotVerdict, orderVerdict, slotsVerdict, spanVerdict, limitsVerdict, patternVerdict, inputVerdict}
 use Rattle.pattern.specs.Accepted.{AcceptedSlot, Accepted, AcceptedInput}
 use Rattle.pattern.specs.Laws.Members.{member-false}
+use Rattle.pattern.specs.Laws.Words.{rises-iff}
 
 refused-fine : {why : Refusal} → Refused why ≡ Fine → ⊥
 refused-fine e = let z : _≡_ {A = ℕ} 0 1 = cc in omega arith
@@ -107,22 +109,40 @@ slot-accepted j s = (
       (accepted-refuse (ltb (widestGap (j + 1)) (s .high)) (Gap (j + 1)) _ (le-ltb (widestGap (j + 1)) (s .high) (gap-narrow j (widestGap (j + 1)) (s .high) (widest-at j) (a .narrow) (p .1))) refl)))),
 )
 
+-- 16 accepts where the words rise
+pub order-accepted : (j : ℕ) (s : Slot) → (orderVerdict (j + 1) s ≡ Fine) ↔ Rising (stated s)
+order-accepted j s =
+    let told = rises-iff (stated s) in (
+      λ e. told .0 (not-false (rises (stated s)) (refuse-accepted (not (rises (stated s))) (WordOrder (j + 1)) Fine e .0)),
+      λ r. accepted-refuse (not (rises (stated s))) (WordOrder (j + 1)) Fine (ap not (told .1 r)) refl,
+    )
+
 -- ---- slot by slot
 
-pub slots-accepted : (f : Pattern) (n j : ℕ) → (slotsVerdict f j n ≡ Fine) ↔ ((i : ℕ) → j ≤ i → i < j + n → AcceptedSlot (slotAt f i) × (i ≡ 0 → slotAt f i .high ≡ 0))
+-- where a test of one slot accepts exactly if P holds, the tests of some slots accept exactly if P holds of each
+pub slots-accepted : (test : ℕ → Slot → Verdict) (P : ℕ → Slot → Type 0) → ((j : ℕ) (s : Slot) → (test (j + 1) s ≡ Fine) ↔ P j s) → (f : Pattern) (n j : ℕ)
+    → (slotsVerdict test f j n ≡ Fine) ↔ ((i : ℕ) → j ≤ i → i < j + n → P i (slotAt f i))
 unfolding slotsVerdict
-slots-accepted f zero j = (λ e i l h. absurd (omega arith), λ h. refl)
-slots-accepted f (suc n) j = (
+slots-accepted test P told f zero j = (λ e i l h. absurd (omega arith), λ h. refl)
+slots-accepted test P told f (suc n) j = (
   λ e.
-      let b = then-accepted (slotVerdict (j + 1) (slotAt f j)) (slotsVerdict f (j + 1) n) e in
-      let here = slot-accepted j (slotAt f j) .0 (b .0) in
-      let later = slots-accepted f n (j + 1) .0 (b .1) in
+      let b = then-accepted (test (j + 1) (slotAt f j)) (slotsVerdict test f (j + 1) n) e in
+      let here = told j (slotAt f j) .0 (b .0) in
+      let later = slots-accepted test P told f n (j + 1) .0 (b .1) in
       λ i l h. elim (ℕ-discrete i j) [ yes q ↦ rw q here | no q ↦ later i (omega arith) (omega arith) ],
   λ h.
-      accepted-then (slotVerdict (j + 1) (slotAt f j)) (slotsVerdict f (j + 1) n)
-      (slot-accepted j (slotAt f j) .1 (h j (omega arith) (omega arith)))
-      (slots-accepted f n (j + 1) .1 (λ i l k. h i (omega arith) (omega arith))),
+      accepted-then (test (j + 1) (slotAt f j)) (slotsVerdict test f (j + 1) n)
+      (told j (slotAt f j) .1 (h j (omega arith) (omega arith)))
+      (slots-accepted test P told f n (j + 1) .1 (λ i l k. h i (omega arith) (omega arith))),
 )
+
+-- what the tests 2, 3 and 4 accept
+abbrev Limits : ℕ → Slot → Type 0
+Limits j s = AcceptedSlot s × (j ≡ 0 → s .high ≡ 0)
+
+-- what 16 accepts
+abbrev InOrder : ℕ → Slot → Type 0
+InOrder j s = Rising (stated s)
 
 -- ---- a pattern, and a text with it
 
@@ -140,31 +160,63 @@ span-accepted least most = (
       (accepted-refuse (ltb 20000 most) Span _ (le-ltb 20000 most (p .1 .1)) refl)),
 )
 
-pub pattern-accepted : (f : Pattern) → (patternVerdict f ≡ Fine) ↔ Accepted f
-unfolding patternVerdict
-pattern-accepted f = (
+-- what the tests 1 to 5 accept, but for the order of words
+record Within (f : Pattern) : Type 0 where
+  some : 1 ≤ f .count
+  few : f .count ≤ 16
+  slot : (j : ℕ) → j < f .count → Limits j (slotAt f j)
+  span : (1 ≤ f .least) × ((f .least ≤ f .most) × (f .most ≤ 20000))
+
+limits-accepted : (f : Pattern) → (limitsVerdict f ≡ Fine) ↔ Within f
+unfolding limitsVerdict
+limits-accepted f = (
   λ e.
       let a = refuse-accepted (eqb (f .count) 0) SlotCount _ e in
       let b = refuse-accepted (ltb 16 (f .count)) SlotCount _ (a .1) in
-      let d = then-accepted (slotsVerdict f 0 (f .count)) (spanVerdict (f .least) (f .most)) (b .1) in
-      let some = positive (f .count) (eqb-false (f .count) 0 (a .0)) in
-      let slots = slots-accepted f (f .count) 0 .0 (d .0) in
-      let span = span-accepted (f .least) (f .most) .0 (d .1) in
+      let d = then-accepted (slotsVerdict slotVerdict f 0 (f .count)) (spanVerdict (f .least) (f .most)) (b .1) in
+      let slots = slots-accepted slotVerdict Limits slot-accepted f (f .count) 0 .0 (d .0) in
       record {
-        some = some;
+        some = positive (f .count) (eqb-false (f .count) 0 (a .0));
         few = ltb-false 16 (f .count) (b .0);
-        slot = λ j h. slots j (omega arith) (omega arith) .0;
-        first = slots 0 (omega arith) (omega arith) .1 refl;
-        least = span .0;
-        ordered = span .1 .0;
-        most = span .1 .1;
+        slot = λ j h. slots j (omega arith) (omega arith);
+        span = span-accepted (f .least) (f .most) .0 (d .1);
       },
   λ a.
       accepted-refuse (eqb (f .count) 0) SlotCount _ (ne-eqb (f .count) 0 (λ e. omega (arith, a .some)))
       (accepted-refuse (ltb 16 (f .count)) SlotCount _ (le-ltb 16 (f .count) (a .few))
-      (accepted-then (slotsVerdict f 0 (f .count)) (spanVerdict (f .least) (f .most))
-      (slots-accepted f (f .count) 0 .1 (λ i l h. (a .slot i (omega arith), λ z. rw z (a .first))))
-      (span-accepted (f .least) (f .most) .1 (a .least, (a .ordered, a .most))))),
+      (accepted-then (slotsVerdict slotVerdict f 0 (f .count)) (spanVerdict (f .least) (f .most))
+      (slots-accepted slotVerdict Limits slot-accepted f (f .count) 0 .1 (λ i l h. a .slot i (omega arith)))
+      (span-accepted (f .least) (f .most) .1 (a .span)))),
+)
+
+-- at most sixteen slots of at most eight words, as the tests 1 to 5 leave them
+pub limits-slots : (f : Pattern) → limitsVerdict f ≡ Fine → f .count ≤ 16
+limits-slots f e = limits-accepted f .0 e .few
+
+pub limits-few : (f : Pattern) → limitsVerdict f ≡ Fine → (j : ℕ) → j < f .count → slotAt f j .count ≤ 8
+limits-few f e j h = limits-accepted f .0 e .slot j h .0 .few
+
+pub pattern-accepted : (f : Pattern) → (patternVerdict f ≡ Fine) ↔ Accepted f
+unfolding patternVerdict
+pattern-accepted f = (
+  λ e.
+      let d = then-accepted (limitsVerdict f) (slotsVerdict orderVerdict f 0 (f .count)) e in
+      let limits = limits-accepted f .0 (d .0) in
+      let order = slots-accepted orderVerdict InOrder order-accepted f (f .count) 0 .0 (d .1) in
+      record {
+        some = limits .some;
+        few = limits .few;
+        slot = λ j h. limits .slot j h .0;
+        first = limits .slot 0 (omega (arith, limits .some)) .1 refl;
+        least = limits .span .0;
+        ordered = limits .span .1 .0;
+        most = limits .span .1 .1;
+        rising = λ j h. order j (omega arith) (omega arith);
+      },
+  λ a.
+      accepted-then (limitsVerdict f) (slotsVerdict orderVerdict f 0 (f .count))
+      (limits-accepted f .1 (record { some = a .some; few = a .few; slot = λ j h. (a .slot j h, λ z. rw z (a .first)); span = (a .least, (a .ordered, a .most)) }))
+      (slots-accepted orderVerdict InOrder order-accepted f (f .count) 0 .1 (λ i l h. a .rising i (omega arith))),
 )
 
 pub input-accepted : (f : Pattern) (n : ℕ) → (inputVerdict f n ≡ Fine) ↔ AcceptedInput f n

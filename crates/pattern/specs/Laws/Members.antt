@@ -42,3 +42,13 @@ member-here w l i h e = rw (drop-cons l i 0) (simp (eq-eqb _ _ e))
 pub member-later : (w : ℕ) (l : List ℕ) (i : ℕ) → i < length l → (getD l i 0 ≡ w → ⊥) → member w (drop i l) ≡ member w (drop (i + 1) l)
 unfolding member
 member-later w l i h e = rw (add-one, drop-cons l i 0) (simp (ne-eqb _ _ e))
+
+-- ---- the same words
+
+-- the test tells the set apart, and nothing else
+pub member-set : (w : ℕ) (xs ys : List ℕ) → List·Memᴰ w xs ↔ List·Memᴰ w ys → member w xs ≡ member w ys
+member-set w xs ys same = go (member w xs) refl
+  where
+    go : (b : Bool) → member w xs ≡ b → b ≡ member w ys
+    go true e = sym (mem-member (same .0 (member-true w xs e)))
+    go false e = sym (member-false w ys .1 (λ m. member-false w xs .0 e (same .1 m)))

@@ -35,7 +35,7 @@ use Rattle.format.specs.declared.texts.TextRead.{TextRead}
 use Rattle.format.specs.declared.texts.TextRead.the-variants.{Words, Refused as NotRead}
 use Rattle.report.specs.Files.{patternFile, textFile}
 use Rattle.basics.specs.Laws.Digits.{few-digits, most-digits}
-use Rattle.report.specs.Laws.Lines.{closed-append}
+use Rattle.format.specs.Laws.Lines.{closed-append}
 use Rattle.basics.specs.Laws.Writing.{overlaid-short}
 use Rattle.report.specs.Lines.{countNames, entryLine, entryLines, listsReport, refusalNames, refusalReport, tableNames, values}
 use Rattle.basics.specs.Writing.{overlaid}

@@ -1,4 +1,4 @@
--- `format::values::slot_of` meets its contract: each part of the slot is what its callee ensures.
+-- `format::values::slot_of` meets its contract: each part of the slot before its words are sorted is what its callee ensures.
 use Prim.Native.Nat.{ℕ}
 use mathlib.Core.List.{List, map}
 use mathlib.Core.Path.{sym, _∙_, ap}
@@ -34,20 +34,25 @@ value-requires-2 c κs = search needs
 marked-requires : tie.Need-marked-requires
 marked-requires c κs = search needs
 
+canonical-requires : tie.Need-canonical-requires
+canonical-requires c κs = search needs
+
 returns : tie.Need-returns
 returns c =
-    let high = c .before in
+    let mark = c .before in
+    let high = mark .before in
     let low = high .before .before in
     let number = low .before .before in
     let list = number .before in
     let w = list .before .part .ensures in
     let a = list .before .before .before .args in
     simp (
+      c .canonical .ensures,
       list .first-words .ensures ∙ ap (λ (l : List ℕ). padded (map value (wordParts l))) w,
       number .count-words .ensures ∙ ap (λ (l : List ℕ). length (wordParts l)) w ∙ sym (length-map (wordParts (field (a .s .now) (a .c .words))) value),
       low .value .ensures ∙ ap value (low .before .part2 .ensures),
       high .value2 .ensures ∙ ap value (high .before .part3 .ensures),
-      c .marked .ensures ∙ ap marked w,
+      mark .marked .ensures ∙ ap marked w,
     )
 
 pub slot-of-spec : {M : Type 1} → statement M
@@ -62,4 +67,5 @@ slot-of-spec =
     part-requires-3
     value-requires-2
     marked-requires
+    canonical-requires
     returns)

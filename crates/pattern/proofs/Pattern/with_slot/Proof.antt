@@ -24,10 +24,16 @@ enum-known-verdict c = search needs
 
 returns-2 : tie.Need-returns-2
 unfolding extended
-returns-2 c = simp (lt-leb _ _ (c .before .before .before .before .before .if1 .left), ← (c .before .before .before .before .of .ensures), sym (c .before .before .before .slot-verdict .ensures) ∙ c .before .verdict .given .1)
+returns-2 c =
+    let test = c .before .before .before in
+    let made = test .before in
+    simp (lt-leb _ _ (made .before .if1 .left), ← (made .of .ensures), sym (test .slot-verdict .ensures) ∙ c .before .verdict .given .1)
 
 enum-told : tie.Need-enum-told
 enum-told c = search needs
+
+canonical-requires : tie.Need-canonical-requires
+canonical-requires c κs = search needs
 
 mul-slots : tie.Need-mul-slots
 mul-slots c = search needs
@@ -35,12 +41,17 @@ mul-slots c = search needs
 array-set-from-slots : tie.Need-array-set-from-slots
 array-set-from-slots c = search needs
 
-add-t14 : tie.Need-add-t14
-add-t14 c = search needs
+add-t15 : tie.Need-add-t15
+add-t15 c = search needs
 
 returns-3 : tie.Need-returns-3
 unfolding extended
-returns-3 c = simp (lt-leb _ _ (c .before .before .before .before .before .if1 .left), ← (c .before .before .before .before .of .ensures), sym (c .before .before .before .slot-verdict .ensures) ∙ c .before .enum-told .given .1)
+returns-3 c =
+    let held = c .before in
+    let told = held .before in
+    let test = told .before .before in
+    let made = test .before in
+    simp (lt-leb _ _ (made .before .if1 .left), ← (made .of .ensures), sym (test .slot-verdict .ensures) ∙ told .enum-told .given .1, held .canonical .ensures)
 
 pub with-slot-spec : {M : Type 1} → statement M
 with-slot-spec =
@@ -53,7 +64,8 @@ with-slot-spec =
     enum-known-verdict
     returns-2
     enum-told
+    canonical-requires
     mul-slots
     array-set-from-slots
-    add-t14
+    add-t15
     returns-3)

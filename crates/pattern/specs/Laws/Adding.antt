@@ -1,0 +1,56 @@
+-- Adding keeps the order of words: a pattern made by adding slots to a new one passes 16.
+use Prim.Native.Nat.{ℕ, _+_, _<_}
+use native.Mathlib.Omega.{arith}
+use native.Mathlib.Decide.{ℕ-discrete}
+use mathlib.Core.Path.{_≡_, refl}
+use mathlib.Core.Bool.{Bool, true, false}
+use mathlib.Core.List.{List}
+use lib.ListN.{length}
+use lib.Dec.{leb}
+use lib.Seq.{getD-set-same, getD-set-other}
+use borrow.Author.Tests.{leb-false}
+use Rattle.basics.specs.Choice.{pick}
+use Rattle.pattern.specs.declared.slot.Slot.{Slot}
+use Rattle.pattern.specs.declared.Pattern.{Pattern}
+use Rattle.pattern.specs.declared.refusal.Refusal.the-variants.{SlotCount}
+use Rattle.pattern.specs.declared.refusal.Verdict.{Verdict}
+use Rattle.pattern.specs.declared.refusal.Verdict.the-variants.{Accepted, Refused}
+use Rattle.pattern.specs.Patterns.{stated, noSlot, slotAt, slotOf, withSlot, emptyPattern}
+use Rattle.pattern.specs.Words.{Rising, canonical}
+use Rattle.pattern.specs.Tests.{slotVerdict}
+use Rattle.pattern.specs.Adding.{added, extended}
+use Rattle.pattern.specs.Laws.Accepting.{slot-accepted}
+use Rattle.pattern.specs.Laws.Canonical.{canonical-rising}
+
+-- the words of every stated slot rise
+pub record InOrder (f : Pattern) : Type 0 where
+  pub rising : (j : ℕ) → j < f .count → Rising (stated (slotAt f j))
+
+pub new-in-order : InOrder emptyPattern
+new-in-order = record { rising = λ j h. absurd (omega arith) }
+
+-- the pattern with a slot of at most eight words, as a pattern holds it, last
+slot-in-order : {f : Pattern} → InOrder f → length (f .slots) ≡ 16 → f .count < 16 → (s : Slot) → Rising (stated s) → InOrder (withSlot f s)
+slot-in-order {f} o sixteen room s r = record {
+  rising = λ j h. elim (ℕ-discrete j (f .count)) [
+    | yes e ↦ rw (e, getD-set-same (f .slots) (f .count) s noSlot (omega arith)) r
+    | no e ↦ rw (getD-set-other (f .slots) (f .count) j s noSlot (λ q. e q)) (o .rising j (omega arith))
+  ];
+}
+
+module _ (f : Pattern) (o : InOrder f) (sixteen : length (f .slots) ≡ 16) (low high : ℕ) (excluding : Bool) (ws : List ℕ) where
+  by-verdict : f .count < 16 → (v : Verdict) → slotVerdict (f .count + 1) (slotOf low high excluding ws) ≡ v → InOrder (added v f (canonical (slotOf low high excluding ws)) .pattern)
+  by-verdict room (Refused why) e = o
+  by-verdict room Accepted e =
+      let fits = slot-accepted (f .count) (slotOf low high excluding ws) .0 e .0 in
+      slot-in-order o sixteen room (canonical (slotOf low high excluding ws)) (canonical-rising (slotOf low high excluding ws) (fits .few))
+
+  -- whatever is added, and whether it is refused or not
+  pub adding-in-order : InOrder (extended f low high excluding ws .pattern)
+  unfolding extended
+  adding-in-order = go (leb 16 (f .count)) refl
+    where
+      go : (b : Bool) → leb 16 (f .count) ≡ b
+          → InOrder (pick b (record { verdict = Refused SlotCount; pattern = f }) (added (slotVerdict (f .count + 1) (slotOf low high excluding ws)) f (canonical (slotOf low high excluding ws))) .pattern)
+      go true e = o
+      go false e = by-verdict (leb-false 16 (f .count) e) (slotVerdict (f .count + 1) (slotOf low high excluding ws)) refl

@@ -1,0 +1,2 @@
+-- Contracts of the functions inside the crate.
+pub mod Least
