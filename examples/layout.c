@@ -8,6 +8,8 @@
 #define FIELD(structure, field, offset) \
     _Static_assert(offsetof(structure, field) == (offset), "the offset of " #field " in " #structure)
 
+_Static_assert(BEDBLOOMER_PATTERN_BYTES == 916, "the most bytes of a written pattern");
+
 SIZE(bedbloomer_slot, 32);
 FIELD(bedbloomer_slot, words, 0);
 FIELD(bedbloomer_slot, count, 16);

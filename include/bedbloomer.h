@@ -24,8 +24,8 @@
 #include <stdint.h>
 
 /*
- * A slot: the first `count` of its words, which rise strictly, the gap before it, and whether it takes these words or any
- * word but these (never 0).
+ * A slot: the first `count` of its words, which rise strictly (else 16), the gap before it, and whether it takes these
+ * words or any word but these (never 0).
  */
 typedef struct {
     uint16_t words[8];
@@ -34,9 +34,6 @@ typedef struct {
     uint16_t high;
     bool excluding;
 } bedbloomer_slot;
-
-/* The most bytes of a pattern's file as bedbloomer_write_pattern writes it. */
-#define BEDBLOOMER_PATTERN_BYTES 916
 
 /* A pattern: the first `count` of its slots, and its span limits. */
 typedef struct {
@@ -120,15 +117,21 @@ bedbloomer_answer bedbloomer_read_text(const uint8_t *bytes, size_t byte_count, 
 bedbloomer_read_both bedbloomer_read_input(const uint8_t *pattern, size_t pattern_bytes, const uint8_t *text,
                                            size_t text_bytes, uint16_t *words, size_t word_count);
 
-/* The pattern as a file, written to the start of `out`: how many bytes. Patterns that say the same are the same bytes. */
+/* The most bytes of a pattern's file as it is written. */
+#define BEDBLOOMER_PATTERN_BYTES 916
+
+/*
+ * The pattern as a file, written to the start of `out`: how many bytes. Where `out` is too short for all of it the answer
+ * is 8 and nothing is written. Patterns that say the same are written as the same bytes.
+ */
 bedbloomer_answer bedbloomer_write_pattern(bedbloomer_pattern pattern, uint8_t *out, size_t out_bytes);
 
 /* The line that begins at a place of the bytes. */
 bedbloomer_line_ends bedbloomer_line(const uint8_t *bytes, size_t byte_count, size_t at);
 
 /*
- * A pattern without slots, with these span limits; the pattern with one slot more, whose words are put in rising order, each
- * once; the pattern's tests, 1 to 5 and 16, alone and with 6 for a text of `words`.
+ * A pattern without slots, with these span limits; the pattern with one slot more, whose words are put in rising order,
+ * each once; the pattern's tests, 1 to 5 and 16, alone and with 6 for a text of `words`.
  */
 bedbloomer_pattern bedbloomer_pattern_of(uint16_t least, uint16_t most);
 bedbloomer_made bedbloomer_with_slot(bedbloomer_pattern pattern, uint16_t low, uint16_t high, bool excluding,

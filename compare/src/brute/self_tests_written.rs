@@ -2,7 +2,7 @@
 
 use super::*;
 use crate::cases::orders::{canonical, in_order, rearranged, spread, weak_orders};
-use crate::cases::random::{any_pattern, break_pattern, Kind};
+use crate::cases::random::{any_pattern, Kind};
 use crate::cases::written::{longest, LONGEST_FILE, MOST_BYTES, WRITTEN_FILES};
 use crate::cases::Words::{But, Only};
 use crate::cases::{alike, files::usual_pattern_file, pattern, Written, ANY_SPAN};
@@ -177,13 +177,25 @@ fn files_by_hand() {
     }
 }
 
-/// No pattern's file has more than 916 bytes: the greatest numbers everywhere have just that.
+/// Whatever is made shorter in the longest file makes it shorter; another long file is counted by hand.
 #[test]
 fn longest_file() {
-    let mut rng = Rng::new(5);
-    let kind = Kind { slots: (16, 16), highest_word: 65_535, most_words: 8, widest_gap: 63 };
-    for _ in 0..500 {
-        assert!(written(&any_pattern(&mut rng, &kind)).unwrap().len() < MOST_BYTES);
+    let (span, slots) = longest();
+    let longest = pattern(span, &slots);
+    assert_eq!(written(&longest).unwrap().len(), MOST_BYTES);
+    let shorter: [fn(&mut Pattern); 7] = [
+        |pattern| pattern.count = 15,
+        |pattern| pattern.least = 9_999,
+        |pattern| pattern.slots[15].low = 9,
+        |pattern| (pattern.slots[1].low, pattern.slots[1].high) = (9, 9),
+        |pattern| pattern.slots[0].excluding = false,
+        |pattern| pattern.slots[15].count = 7,
+        |pattern| pattern.slots[8].words[0] = 9_999,
+    ];
+    for shorten in shorter {
+        let mut other = longest;
+        shorten(&mut other);
+        assert!(written(&other).unwrap().len() < MOST_BYTES);
     }
     let plain = pattern((20_000, 20_000), &alike(Only(&[10_000, 65_535]), 16, 10, 63));
     assert_eq!(written(&plain).unwrap().len(), 11 + 12 + 15 + 16 + 15 * 18);
@@ -202,8 +214,5 @@ fn written_and_read_back() {
         assert_eq!((read, written(&read).unwrap().into_bytes()), (canonical(&stated), file));
         let other = usual_pattern_file(&rearranged(&mut rng, &stated));
         assert_eq!(made_from_file(&other).pattern, read);
-        let mut broken = stated;
-        break_pattern(&mut rng, &mut broken);
-        assert_eq!(written(&broken).is_ok(), check_pattern(&broken).number == 0);
     }
 }

@@ -27,7 +27,7 @@ pub fn written(pattern: &Pattern) -> Result<String, Refusal> {
     Ok(lines.join("\n") + "\n")
 }
 
-/// The line of a slot.
+/// The line of a slot, its words read out of a set, so that no order is relied on.
 fn slot_line(slot: &Slot) -> String {
     let listed = BTreeSet::from_iter(&slot.words[..slot.count]);
     let words = listed.into_iter().map(u16::to_string).collect::<Vec<_>>().join(",");

@@ -79,8 +79,12 @@ pub fn rearranged(rng: &mut Rng, pattern: &Pattern) -> Pattern {
     other
 }
 
-/// Gives the slot a word that is not greater than the one before it; where it has fewer than two words, two.
+/// Gives the slot a word that is not greater than the one before it; where it has fewer than two words, two. No word
+/// becomes 0.
 pub fn disorder(rng: &mut Rng, slot: &mut Slot) {
+    if slot.count == 0 {
+        slot.words[0] = slot.words[0].max(1);
+    }
     slot.count = slot.count.max(2);
     let at = rng.within(1, slot.count.min(8) - 1);
     let before = slot.words[at - 1];

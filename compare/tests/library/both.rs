@@ -1,5 +1,6 @@
 //! Every call on a pattern and a text, made on the library and worked out by brute force.
 
+use std::collections::BTreeSet;
 use std::fmt::Debug;
 
 use compare::brute::{self, Brute, Row, Searcher};
@@ -178,7 +179,7 @@ pub fn check_pattern(run: &mut Run, pattern: &Pattern) {
 /// Compares what a pattern is written as, with lists of every interesting length lent.
 pub fn write_pattern(run: &mut Run, pattern: &Pattern) {
     let bytes = brute::written(pattern).map_or(0, |file| file.len());
-    for room in [vec![0, bytes + 1, 2_000], rooms(bytes)].concat() {
+    for room in BTreeSet::from_iter([vec![0, bytes + 1, 2_000], rooms(bytes)].concat()) {
         write_pattern_in(run, pattern, room);
     }
 }

@@ -68,7 +68,7 @@ fn patterns() -> Vec<Pattern> {
             let base = pattern(ANY_SPAN, &alike(words, slots, 0, 1));
             for at in [0, slots / 2, slots - 1] {
                 for words in EIGHT_WORDS {
-                    found.extend(with_words(&base, at, words));
+                    found.extend(with_counts(&base, at, words));
                 }
                 found.extend(with_gaps(&base, at));
             }
@@ -80,7 +80,7 @@ fn patterns() -> Vec<Pattern> {
 
 /// The pattern with every interesting number of these eight words in one slot, and with the word 0 at each of its
 /// places.
-fn with_words(base: &Pattern, at: usize, words: Words) -> Vec<Pattern> {
+fn with_counts(base: &Pattern, at: usize, words: Words) -> Vec<Pattern> {
     let (excluding, words) = words.parts();
     let mut found = Vec::new();
     for count in COUNTS {

@@ -1,5 +1,5 @@
-//! Patterns handed in with words that do not rise: every call refuses them with 16 and the first such slot, and adding
-//! does not.
+//! Patterns handed in with words that do not rise: every call refuses them with 16 and the first such slot, an excerpt
+//! is empty, and adding does not look at them.
 
 use compare::brute::{self, Brute};
 use compare::cases::inputs::sevens;

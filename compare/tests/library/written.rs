@@ -83,7 +83,9 @@ pub fn file_of(pattern: &Pattern) -> Vec<u8> {
 fn made((least, most): (u16, u16), slots: &[Written]) -> Pattern {
     slots.iter().fold(ffi::pattern_of(least, most), |begun, &(low, high, words)| {
         let (excluding, words) = words.parts();
-        ffi::with_slot(&begun, low, high, excluding, words).pattern
+        let made = ffi::with_slot(&begun, low, high, excluding, words);
+        assert_eq!((made.number, made.place), (0, 0), "with_slot {low} {high} {excluding} {words:?}");
+        made.pattern
     })
 }
 

@@ -13,7 +13,7 @@ ghost use lib.ListN.{length};
 ghost use Rattle.format.specs.Input.{inputRead, inputWritten};
 ghost use Rattle.format.specs.Lines.{lineAt};
 ghost use Rattle.format.specs.Patterns.{patternRead};
-ghost use Rattle.format.specs.Printed.{patternWritten, patternLeft};
+ghost use Rattle.format.specs.Printed.{patternPrinted, patternWritten};
 ghost use Rattle.format.specs.Texts.{textRead, textWritten};
 ghost use Rattle.basics.specs.Writing.{overlaid};
 ghost use Rattle.report.specs.Report.{reported};
@@ -93,8 +93,8 @@ pub extern "C" fn bedbloomer_read_input(pattern: &[u8], text: &[u8], words: &mut
 // Writes a pattern as a file to the start of `out`: how many bytes.
 #[no_mangle]
 pub extern "C" fn bedbloomer_write_pattern(pattern: Pattern, out: &mut [u8]) -> Answer
-    ensures { λ r. ⌜ r ≡ ofWritten (patternWritten pattern (length (now (out .entry)))) ⌝ }
-    ensures { λ _. ⌜ now (out .exit) ≡ patternLeft pattern (now (out .entry)) ⌝ }
+    ensures { λ r. ⌜ r ≡ ofWritten (patternPrinted pattern (length (now (out .entry)))) ⌝ }
+    ensures { λ _. ⌜ now (out .exit) ≡ patternWritten pattern (now (out .entry)) ⌝ }
 {
     let written = format::write_pattern(pattern, out);
     of_written(written)

@@ -1,4 +1,4 @@
--- The answers of the public calls, from the verdict of the tests 1 to 6 and the number in its two halves. Assumes nothing.
+-- The answers of the public calls, from the verdict of the tests up to 6 and the number in its two halves. Assumes nothing.
 use Prim.Native.Nat.{ℕ, _*_, _/_, _^_, _≤_, _<_}
 use native.Mathlib.Nat.{mul-le-mul, div-lt-iff-lt-mul, le-div-iff-mul-le}
 use native.Mathlib.Omega.{arith}

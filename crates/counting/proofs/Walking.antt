@@ -7,15 +7,12 @@ use mathlib.Core.Path.{_≡_, refl, sym, ap, _∙_}
 use mathlib.Core.List.{List, [], _∷_, _++_, map, append-assoc}
 use lib.ListN.{length, getD, take, set, length-map, length-append, length-set}
 use lib.Seq.{paste, take-suc-set, take-set-le, take-take}
+use Rattle.basics.specs.Laws.Collections.{map-append}
 use Rattle.counting.specs.Steps.Tables.{NextRows}
 use Rattle.counting.specs.Steps.Walks.{run, put, Walk, Walked}
 use Rattle.counting.specs.Laws.Runs.{run-none, run-skip, run-more, run-part, put-append}
 
 -- ---- rows with the same places before them
-
-map-append : {A : Type 0} (h : A → A) (R S : List A) → map h (R ++ S) ≡ map h R ++ map h S
-map-append h [] S = refl
-map-append h (r ∷ R) S = ap (λ T. h r ∷ T) (map-append h R S)
 
 prefixed : (a : List ℕ) (p : ℕ) (R : List (List ℕ)) → map (λ s. a ++ s) (map (λ r. p ∷ r) R) ≡ map (λ s. (a ++ (p ∷ [])) ++ s) R
 prefixed a p [] = refl

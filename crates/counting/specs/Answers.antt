@@ -24,7 +24,7 @@ use Rattle.counting.specs.declared.total.Tallied.the-variants.{Total, Re
 abbrev pub totalOf : ℕ → Tallied
 totalOf n = pick (ltb 18446744073709551615 n) (Refused Tally) (Total n)
 
--- the same where the tests 1 to 6 come to the verdict
+-- the same where the tests up to 6 come to the verdict
 abbrev pub talliedAfter : Verdict → ℕ → Tallied
 talliedAfter Accepted n = totalOf n
 talliedAfter (Turned why) n = Refused why
@@ -35,7 +35,7 @@ tallied f t = talliedAfter (inputVerdict f (length t)) (length (occurrences f t)
 
 -- ---- all occurrences: 8 where the list is shorter than rows times slots, with the place 0
 
--- the answer for so many rows of m places and a list of n, where the tests 1 to 6 come to the verdict
+-- the answer for so many rows of m places and a list of n, where the tests up to 6 come to the verdict
 abbrev pub listedAfter : Verdict → ℕ → ℕ → ℕ → Listed
 listedAfter Accepted rows m n = pick (ltb n (rows * m)) (Unlisted (ListLength 0)) (Rows rows)
 listedAfter (Turned why) rows m n = Unlisted why

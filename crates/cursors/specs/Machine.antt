@@ -49,7 +49,7 @@ moved s client row = record { marks = set (s .marks) (client - 1) (marksOver row
 unfoldable pub clientVerdict : ℕ → Verdict
 clientVerdict client = refuse (eqb client 0) Client (refuse (ltb 4 client) Client Accepted)
 
--- 1 to 6, 14 and 15, of a pattern, a text of n words, a client and the number served
+-- 1 to 5, 16, 6, 14 and 15, of a pattern, a text of n words, a client and the number served
 unfoldable pub nextVerdict : Pattern → ℕ → ℕ → ℕ → Verdict
 nextVerdict f n client served = andThen (inputVerdict f n) (andThen (clientVerdict client) (refuse (leb 500 served) TooMany Accepted))
 

@@ -55,7 +55,7 @@ fn client_verdict(client: usize) -> Verdict
     Verdict::Accepted
 }
 
-// Tests 1 to 6, 14 and 15, of a pattern, a text of so many words, a client and the number served.
+// Tests 1 to 5, 16, 6, 14 and 15, of a pattern, a text of so many words, a client and the number served.
 fn next_verdict(pattern: Pattern, words: usize, client: usize, served: usize) -> Verdict
     ensures { λ r. ⌜ r ≡ nextVerdict pattern words client served ⌝ }
 {

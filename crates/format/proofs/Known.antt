@@ -14,7 +14,7 @@ use borrow.Author.Needs.{length-unmapped, elem-fits-field}
 use Rattle.pattern.specs.declared.slot.Slot.{Slot}
 use Rattle.pattern.specs.declared.Pattern.{Pattern}
 use Rattle.pattern.specs.Patterns.{noSlot}
-use Rattle.pattern.specs.Sized.{SizedSlot, Sized}
+use Rattle.pattern.specs.Typed.{TypedSlot, Typed}
 use Rattle.pattern.proofs.slot.Slot as the-slot
 use Rattle.pattern.proofs.Pattern as the-pattern
 
@@ -25,15 +25,15 @@ each-at X f (x ∷ xs) [] i d h p = absurd p
 each-at X f (x ∷ xs) (u ∷ us) zero d h p = (u, p .0)
 each-at X f (x ∷ xs) (u ∷ us) (suc i) d h p = each-at X f xs us i d (omega arith) (p .1)
 
-slot-sized : (s : Slot) (vs : List Val) → Is the-slot.the-row s vs → SizedSlot s
-slot-sized s vs g = record {
+slot-typed : (s : Slot) (vs : List Val) → Is the-slot.the-row s vs → TypedSlot s
+slot-typed s vs g = record {
   eight = length-unmapped ℕ (s .words) 8 (g .1 .1 .0 .1 .0 .1);
   word = λ k. let h = elem-fits-field w16 w16 (s .words) (g .1 .1 .0 .0) k (g .1 .1 .0 .1 .1) tt .fits in omega (arith, h);
 }
 
 -- a function that takes a pattern as its parameter number i has it at its entry: `good`, then `.1` i times, then `.0`
-pub pattern-sized : (f : Pattern) (vs : List Val) → Is the-pattern.the-row f vs → Sized f
-pattern-sized f vs g =
+pub pattern-typed : (f : Pattern) (vs : List Val) → Is the-pattern.the-row f vs → Typed f
+pattern-typed f vs g =
     let F = the-slot.the-field in
     let xs = map (F .into) (f .slots) in
     let e : (j : ℕ) (h : j < length xs) → (u : Val) × shadow (F .row .own (getD xs j (F .into noSlot)) (u ∷ [])) = λ j h. each-at (F .row .Denot) (F .row .own) xs (g .1 .1 .0 .0) j (F .into noSlot) h (g .1 .1 .0 .1 .1) in
@@ -41,6 +41,6 @@ pattern-sized f vs g =
     record {
       sixteen = sym (length-map (f .slots) (F .into)) ∙ long;
       slot = λ j h. let h' : j < length xs = omega arith in
-          slot-sized (getD (f .slots) j noSlot) (e j h' .0 ∷ [])
+          slot-typed (getD (f .slots) j noSlot) (e j h' .0 ∷ [])
           (subst (λ (x : F .row .Denot). shadow (F .row .own x (e j h' .0 ∷ []))) (List·getD-map (F .into) (f .slots) j noSlot) (e j h' .1));
     }

@@ -1,7 +1,7 @@
 -- A pattern as a file (document 02, Job 3), and what writing it gives.
 use Prim.Native.Nat.{ℕ}
-use mathlib.Core.List.{List, _++_, map}
-use lib.ListN.{length, take, drop}
+use mathlib.Core.List.{List, map}
+use lib.ListN.{length, take}
 use lib.Dec.{ltb}
 use Rattle.basics.specs.Choice.{pick}
 use Rattle.pattern.specs.declared.slot.Slot.{Slot}
@@ -11,6 +11,7 @@ use Rattle.pattern.specs.declared.refusal.Verdict.{Verdict}
 use Rattle.pattern.specs.declared.refusal.Verdict.the-variants.{Accepted, Refused as NotAccepted}
 use Rattle.pattern.specs.Patterns.{stated}
 use Rattle.pattern.specs.Tests.{patternVerdict}
+use Rattle.format.specs.Texts.{over}
 use Rattle.format.specs.Patterns.{SlotLine}
 use Rattle.format.specs.Shown.{closed, fileLines}
 use Rattle.format.specs.declared.names.Columns.{Columns}
@@ -19,7 +20,7 @@ use Rattle.format.specs.declared.writing.PatternWritten.the-variants.{By
 
 -- ---- the file
 
--- what a slot's line says
+-- the line as which a slot is printed
 abbrev pub lineOf : Slot → SlotLine
 lineOf s = record { low = s .low; high = s .high; excluding = s .excluding; words = stated s }
 
@@ -36,25 +37,25 @@ unfoldable pub patternText : Pattern → List ℕ
 patternText f = closed (fileLines 0 paperOrder (f .least) (f .most) (linesOf f))
 
 -- the most bytes of an accepted pattern's file
-abbrev pub largestFile : ℕ
-largestFile = 916
+abbrev pub mostPrinted : ℕ
+mostPrinted = 916
 
 -- ---- the answer: the tests 1 to 5 and 16, then 8 where the list is too short for the file
 
--- a file of `size` bytes to a list with so much room, where the tests come to the verdict
-abbrev pub writtenBy : Verdict → ℕ → ℕ → PatternWritten
-writtenBy (NotAccepted why) size room = Refused why
-writtenBy Accepted size room = pick (ltb room size) (Refused (ListLength 0)) (Bytes size)
+-- the answer for a file of `size` bytes and a list of `room` entries, where the tests come to the verdict
+abbrev pub printedBy : Verdict → ℕ → ℕ → PatternWritten
+printedBy (NotAccepted why) size room = Refused why
+printedBy Accepted size room = pick (ltb room size) (Refused (ListLength 0)) (Bytes size)
 
 -- how many bytes are written, or why none
-abbrev pub patternWritten : Pattern → ℕ → PatternWritten
-patternWritten f room = writtenBy (patternVerdict f) (length (patternText f)) room
+abbrev pub patternPrinted : Pattern → ℕ → PatternWritten
+patternPrinted f room = printedBy (patternVerdict f) (length (patternText f)) room
 
--- what the list then holds: the file at its start and the rest as it was, or all of it as it was
-abbrev pub leftBy : PatternWritten → List ℕ → List ℕ → List ℕ
-leftBy (Refused why) text out = out
-leftBy (Bytes n) text out = text ++ drop n out
+-- what the list holds by the answer: the file over its start, or all of it as it was
+abbrev pub writtenBy : PatternWritten → List ℕ → List ℕ → List ℕ
+writtenBy (Refused why) text out = out
+writtenBy (Bytes n) text out = over out text
 
 -- what the list holds after the call
-abbrev pub patternLeft : Pattern → List ℕ → List ℕ
-patternLeft f out = leftBy (patternWritten f (length out)) (patternText f) out
+abbrev pub patternWritten : Pattern → List ℕ → List ℕ
+patternWritten f out = writtenBy (patternPrinted f (length out)) (patternText f) out

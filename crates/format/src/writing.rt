@@ -14,9 +14,9 @@ ghost use mathlib.Core.List.{map, [], _∷_};
 ghost use Prim.Native.Nat.{_≤_};
 ghost use lib.ListN.{length, take};
 ghost use Rattle.basics.specs.Writing.{Writes};
-ghost use Rattle.pattern.specs.Sized.{Sized};
+ghost use Rattle.pattern.specs.Typed.{Typed};
 ghost use Rattle.format.specs.Shown.{digits, closed, joined, markText, slotText};
-ghost use Rattle.format.specs.Printed.{lineOf, linesOf, paperOrder, patternText, largestFile, patternWritten, patternLeft};
+ghost use Rattle.format.specs.Printed.{lineOf, linesOf, paperOrder, patternText, mostPrinted, patternPrinted, patternWritten};
 ghost use Rattle.format.specs.Steps.Printing.{wordText};
 
 // What writing a pattern gives: how many bytes were written, or why none.
@@ -100,11 +100,13 @@ fn put_pattern(out: &mut [u8], pattern: Pattern) -> usize
     put_slots(out, slots, pattern)
 }
 
-// Writes a pattern as a file, where there is room for all of it.
+// Writes a pattern as a file, where there is room for all of it. What its type says of the pattern is what the laws on files ask (`Typed`), and
+// `PATTERN_FILE` is the size that no accepted pattern's file exceeds.
 pub fn write_pattern(pattern: Pattern, out: &mut [u8]) -> PatternWritten
-    ensures { λ r. ⌜ r ≡ patternWritten pattern (length (now (out .entry))) ⌝ }
-    ensures { λ _. ⌜ now (out .exit) ≡ patternLeft pattern (now (out .entry)) ⌝ }
-    ensures { λ _. do ⌜ Sized pattern × (largestFile ≡ (← ⟦crate::PATTERN_FILE⟧ .entry)) ⌝ }
+    ensures { λ r. ⌜ r ≡ patternPrinted pattern (length (now (out .entry))) ⌝ }
+    ensures { λ _. ⌜ now (out .exit) ≡ patternWritten pattern (now (out .entry)) ⌝ }
+    ensures { λ _. ⌜ Typed pattern ⌝ }
+    ensures { λ _. do ⌜ mostPrinted ≡ (← ⟦crate::PATTERN_FILE⟧ .entry) ⌝ }
 {
     let verdict = pattern.check();
     if let Verdict::Refused(why) = verdict {
@@ -114,6 +116,5 @@ pub fn write_pattern(pattern: Pattern, out: &mut [u8]) -> PatternWritten
     if out.len() < size {
         return PatternWritten::Refused(Refusal::ListLength(0));
     }
-    put_pattern(out, pattern);
-    PatternWritten::Bytes(size)
+    PatternWritten::Bytes(put_pattern(out, pattern))
 }

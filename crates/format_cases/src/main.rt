@@ -114,11 +114,11 @@ fn write_case(bytes: &[u8], room: usize) {
 fn write_cases() {
     write_case(
         b"most least\n9 3\nwords high low\n8,65535,7 0 0\n!15,12,15 63 10\n! 1 0\n",
-        916,
+        format::PATTERN_FILE,
     );
     write_case(b"least most\n1 20000\nlow high words\n0 0 7\n", 40);
     write_case(b"least most\n1 20000\nlow high words\n0 0 7\n", 39);
-    write_case(b"", 916);
+    write_case(b"", format::PATTERN_FILE);
     pattern_case(b"least most\n1 20000\nlow high words\n0 0 1,1,1,1,1,1,1,1\n");
     pattern_case(b"least most\n1 20000\nlow high words\n0 0 1,1,1,1,1,1,1,1,1\n");
 }

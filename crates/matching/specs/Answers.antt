@@ -21,7 +21,7 @@ use Rattle.matching.specs.Lists.{leftmost, rightmost}
 use Rattle.basics.specs.Written.{written}
 use Rattle.matching.specs.Largest.{Largest}
 
--- 1 to 6, then 7, of a row or of marks
+-- 1 to 5, 16, 6, then 7, of a row or of marks
 unfoldable pub rowVerdict : Pattern → List ℕ → List ℕ → Verdict
 rowVerdict f t row = andThen (inputVerdict f (length t)) (refuse (not (eqb (length row) (f .count))) RowLength Accepted)
 
@@ -51,7 +51,7 @@ lastBefore f t marks = searchedBy (rowVerdict f t marks) (latest f t marks)
 
 -- ---- the lists
 
--- what a list call answers where its tests 1 to 6 come to the verdict: rows of m places are to go into a list of `room` entries
+-- what a list call answers where its tests up to 6 come to the verdict: rows of m places are to go into a list of `room` entries
 abbrev pub listed : Verdict → ℕ → List (List ℕ) → ℕ → Listed
 listed Accepted m R room = pick (ltb room (length R * m)) (NotListed (ListLength (length R))) (Rows (length R))
 listed (Refused why) m R room = NotListed why

@@ -25,7 +25,7 @@ pub struct Search {
     pub places: [u16; 16],
 }
 
-// The first of the tests 1 to 7 that a pattern, a text and a row or marks fail.
+// The first of the tests 1 to 5, 16, 6 and 7 that a pattern, a text and a row or marks fail.
 pub fn row_verdict(pattern: Pattern, text: &[u16], row: &[u16]) -> Verdict
     ensures { λ r. ⌜ r ≡ rowVerdict pattern (now (text .entry)) (now (row .entry)) ⌝ }
 {

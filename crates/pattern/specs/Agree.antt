@@ -1,4 +1,5 @@
--- When two patterns say the same (document 02, Job 3): their span limits, gaps, slot marks and sets of listed words agree.
+-- When two patterns say the same (document 02, Job 3): they have as many slots, and their span limits, gaps, slot marks and sets of listed
+-- words agree.
 use Prim.Native.Nat.{ℕ, _<_}
 use mathlib.Core.Path.{_≡_}
 use mathlib.Core.Logic.{_↔_}

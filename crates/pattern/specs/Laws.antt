@@ -8,3 +8,4 @@ pub mod Agree
 pub mod Canonical
 pub mod Limits
 pub mod Adding
+pub mod Examples

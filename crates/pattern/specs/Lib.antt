@@ -4,7 +4,7 @@ pub mod Words
 pub mod Numbers
 pub mod Stated
 pub mod Agree
-pub mod Sized
+pub mod Typed
 pub mod Refusals
 pub mod Tests
 pub mod Adding

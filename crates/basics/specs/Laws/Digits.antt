@@ -16,11 +16,12 @@ unfolding digitsIn
 digits-room zero n h = rw (lt-ltb n 10 h)
 digits-room (suc f) n h = ap (λ (l : List ℕ). pick (ltb n 10) ((48 + n) ∷ []) (l ++ ((48 + n % 10) ∷ []))) (digits-room f (n / 10) (omega arith))
 
--- however much
+-- below a bound, and below all that are larger
 digits-below : (k f n : ℕ) → n < ten f → n < ten (k + f)
 digits-below zero f n h = let e : 0 + f ≡ f = omega arith in rw e h
 digits-below (suc k) f n h = let e : suc k + f ≡ suc (k + f) = omega arith in rw e (omega (arith, digits-below k f n h))
 
+-- however much more room
 pub digits-wide : (k f n : ℕ) → n < ten f → digitsIn f n ≡ digitsIn (k + f) n
 digits-wide zero f n h = let e : f ≡ 0 + f = omega arith in ap (λ (m : ℕ). digitsIn m n) e
 digits-wide (suc k) f n h =

@@ -1,4 +1,4 @@
--- What the steps behind the tests 1 to 6 are given.
+-- What the steps behind the tests up to 6 are given.
 use Prim.Native.Nat.{_≤_}
 use Rattle.pattern.specs.declared.Pattern.{Pattern}
 use Rattle.pattern.specs.Accepted.{Accepted}

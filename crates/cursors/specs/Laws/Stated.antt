@@ -6,10 +6,11 @@ use lib.ListN.{length}
 use Rattle.pattern.specs.declared.Pattern.{Pattern}
 use Rattle.pattern.specs.Stated.{SameStated}
 use Rattle.pattern.specs.Laws.Stated.{input-same}
-use Rattle.matching.specs.Laws.Stated.{same-occurrences}
+use Rattle.pattern.specs.Laws.Agree.{same-agree}
+use Rattle.matching.specs.Laws.Stated.{agree-occurrences}
 use Rattle.cursors.specs.declared.Cursors.{Cursors}
 use Rattle.cursors.specs.Machine.{nextVerdict, nextServed}
 
 pub next-same : {f g : Pattern} → SameStated f g → (s : Cursors) (client : ℕ) (t : List ℕ) → nextServed s client f t ≡ nextServed s client g t
 unfolding nextServed nextVerdict
-next-same same s client t = rw (input-same same (length t), same-occurrences same t, same .count)
+next-same same s client t = rw (input-same same (length t), agree-occurrences (same-agree same) t, same .count)

@@ -5,12 +5,13 @@ use mathlib.Core.Path.{_≡_}
 use mathlib.Core.List.{List}
 use Rattle.pattern.specs.declared.Pattern.{Pattern}
 use Rattle.pattern.specs.Stated.{SameStated}
-use Rattle.matching.specs.Laws.Stated.{same-occurs, row-same}
+use Rattle.pattern.specs.Laws.Agree.{same-agree}
+use Rattle.matching.specs.Laws.Stated.{agree-occurs, row-same}
 use Rattle.excerpts.specs.Answers.{isOccurrence, excerptOf, excerptStart}
 
 module _ {f g : Pattern} (same : SameStated f g) (t row : List ℕ) where
   pub test-same : isOccurrence f t row ≡ isOccurrence g t row
-  test-same = rw (row-same same t row, same-occurs same t row)
+  test-same = rw (row-same same t row, agree-occurs (same-agree same) t row)
 
   pub excerpt-same : excerptOf f t row ≡ excerptOf g t row
   unfolding excerptOf

@@ -17,11 +17,11 @@ use Rattle.format.specs.Words.{wordParts}
 use Rattle.format.specs.Layouts.{scan}
 use Rattle.format.specs.Names.{column, highName, leastName, lowName, mostName, wordName, wordsName}
 use Rattle.format.specs.Texts.{textAnswer, textContents, textRead, textWritten, words}
-use Rattle.format.specs.Patterns.{patternContents, patternAnswer, patternRead, refusedPattern, shownPattern, slotValues}
+use Rattle.format.specs.Patterns.{SlotLine, patternContents, patternAnswer, patternRead, refusedPattern, shownPattern, slotValues}
 use Rattle.format.specs.Input.{inputRead, refusedInput}
 use Rattle.basics.specs.Digits.{digitsIn}
 use Rattle.format.specs.Shown.{closed, digits, joined, slotText}
-use Rattle.format.specs.Printed.{patternText, largestFile}
+use Rattle.format.specs.Printed.{patternText, mostPrinted}
 use Rattle.format.specs.declared.texts.TextRead.the-variants.{Words}
 use Rattle.format.specs.declared.texts.TextRead.the-variants.{Refused as NoText}
 
@@ -124,6 +124,10 @@ row-13 = (refl, refl)
 
 -- ---- what is read
 
+-- what the line of a plain first slot says
+abbrev plain : List ℕ → SlotLine
+plain ws = record { low = 0; high = 0; excluding = false; words = ws }
+
 -- a text over the start of a list; the name alone and no bytes are an empty text
 texts-read : (textRead (text (digits 7 ∷ digits 0 ∷ [])) 3 ≡ Words 2)
     × (textWritten (text (digits 7 ∷ digits 0 ∷ [])) (1 ∷ 2 ∷ 3 ∷ []) ≡ 7 ∷ 0 ∷ 3 ∷ [])
@@ -149,11 +153,12 @@ marks-read : patternRead (file (listing (digits 7) ∷ listing (33 ∷ joined (d
 unfolding patternRead patternContents lines ended parts column same decimal more value allNumbers slotValues wordParts scan closed joined digits digitsIn patternVerdict limitsVerdict slotsVerdict slotVerdict spanVerdict rises canonical sorted inserted member
 marks-read = refl
 
--- `15,12,15` is read as the words 12 and 15, eight words of which two are the same as seven, and nine such words are 2
-repeats-read : (patternRead (file (listing (joined (digits 15 ∷ digits 12 ∷ digits 15 ∷ []) 44) ∷ [])) ≡ patternRead (file (listing (joined (digits 12 ∷ digits 15 ∷ []) 44) ∷ [])))
+-- `15,12,15` is read as the words 12 and 15; eight words, two of them the same, are read as seven; nine with repeats are 2
+repeats-read : (patternRead (file (listing (joined (digits 15 ∷ digits 12 ∷ digits 15 ∷ []) 44) ∷ [])) ≡ record { verdict = Accepted; pattern = shownPattern 1 20000 (plain (12 ∷ 15 ∷ []) ∷ []) })
+    × (patternRead (file (listing eightWords ∷ [])) ≡ record { verdict = Accepted; pattern = shownPattern 1 20000 (plain (1 ∷ 2 ∷ 3 ∷ 4 ∷ 5 ∷ 6 ∷ 7 ∷ []) ∷ []) })
     × (patternRead (file (listing (eightWords ++ 44 ∷ digits 1) ∷ [])) ≡ refusedPattern (WordCount 1))
 unfolding eightWords patternRead patternContents lines ended parts column same decimal more value allNumbers slotValues wordParts scan closed joined digits digitsIn patternVerdict limitsVerdict slotsVerdict slotVerdict spanVerdict rises canonical sorted inserted member
-repeats-read = (refl, refl)
+repeats-read = (refl, refl, refl)
 
 -- ---- what is written
 
@@ -170,7 +175,7 @@ largestPattern = shownPattern 10000 20000 (record { low = 0; high = 0; excluding
     long : List ℕ
     long = 65528 ∷ 65529 ∷ 65530 ∷ 65531 ∷ 65532 ∷ 65533 ∷ 65534 ∷ 65535 ∷ []
 
-largest-written : (patternVerdict largestPattern ≡ Accepted) × (length (patternText largestPattern) ≡ largestFile)
+largest-written : (patternVerdict largestPattern ≡ Accepted) × (length (patternText largestPattern) ≡ mostPrinted)
 unfolding largestPattern patternText slotText closed joined digits digitsIn patternVerdict limitsVerdict slotsVerdict slotVerdict spanVerdict rises canonical sorted inserted member
 largest-written = (refl, refl)
 

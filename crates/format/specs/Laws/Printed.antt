@@ -1,4 +1,4 @@
--- A pattern as a file: what it shows, and that accepted patterns are the same bytes exactly if they agree.
+-- A pattern as a file: what it shows, and that accepted patterns are printed as the same bytes exactly if they agree.
 use Prim.Native.Nat.{ℕ, zero, suc, _≤_, _<_}
 use native.Mathlib.Omega.{arith}
 use mathlib.Core.Path.{_≡_, refl, sym, _∙_, ap, subst}
@@ -12,16 +12,16 @@ use Rattle.pattern.specs.declared.refusal.Verdict.{Verdict}
 use Rattle.pattern.specs.declared.refusal.Verdict.the-variants.{Refused, Accepted as Fine}
 use Rattle.pattern.specs.Patterns.{stated, noSlot, slotAt}
 use Rattle.pattern.specs.Agree.{AgreeSlot, Agree}
-use Rattle.pattern.specs.Sized.{SizedSlot, Sized}
+use Rattle.pattern.specs.Typed.{TypedSlot, Typed}
 use Rattle.pattern.specs.Accepted.{AcceptedSlot, Accepted}
 use Rattle.pattern.specs.Stated.{SameStated}
 use Rattle.pattern.specs.Tests.{patternVerdict}
 use Rattle.pattern.specs.Laws.Agree.{agree-stated, same-agree}
 use Rattle.pattern.specs.Laws.Accepting.{pattern-accepted}
-use Rattle.pattern.specs.Laws.Stated.{verdict-same}
+use Rattle.pattern.specs.Laws.Stated.{stated-count, verdict-same}
 use Rattle.format.specs.Patterns.{SlotLine}
 use Rattle.format.specs.Shown.{PatternShows, Small, SmallSlot, SmallSlots, also, also-slot, lhw, lm, no-slot, none, showing}
-use Rattle.format.specs.Printed.{leftBy, patternLeft, patternWritten, writtenBy, lineOf, linesOf, paperOrder, patternText}
+use Rattle.format.specs.Printed.{writtenBy, patternWritten, patternPrinted, printedBy, lineOf, linesOf, paperOrder, patternText}
 use Rattle.format.specs.Laws.PatternShown.{Same, pattern-once}
 
 -- ---- what a pattern's file shows
@@ -31,23 +31,19 @@ small-words zero ws h = none
 small-words (suc n) [] h = none
 small-words (suc n) (w ∷ ws) h = also (h zero) (small-words n ws (λ k. h (suc k)))
 
--- as many words as are stated
-pub stated-count : {s : Slot} → SizedSlot s → AcceptedSlot s → length (stated s) ≡ s .count
-stated-count z a = let e = z .eight in let h = a .few in simp length-take (omega arith)
-
-small-slot : {s : Slot} → SizedSlot s → AcceptedSlot s → SmallSlot (lineOf s)
+small-slot : {s : Slot} → TypedSlot s → AcceptedSlot s → SmallSlot (lineOf s)
 small-slot {s} z a = record {
   low = omega (arith, a .ordered, a .narrow);
   high = omega (arith, a .narrow);
   words = small-words (s .count) (s .words) (z .word);
-  some = λ e. omega (arith, a .some e, stated-count z a);
+  some = λ e. omega (arith, a .some e, stated-count s (z .eight) (a .few));
 }
 
 small-slots : (ss : List Slot) → ((j : ℕ) → j < length ss → SmallSlot (lineOf (getD ss j noSlot))) → SmallSlots (map lineOf ss)
 small-slots [] h = no-slot
 small-slots (s ∷ ss) h = also-slot (h zero (omega arith)) (small-slots ss (λ j k. h (suc j) (omega arith)))
 
-module _ {f : Pattern} (F : Sized f) (A : Accepted f) where
+module _ {f : Pattern} (F : Typed f) (A : Accepted f) where
   pub lines-count : length (take (f .count) (f .slots)) ≡ f .count
   lines-count = let e = F .sixteen in let h = A .few in simp length-take (omega arith)
 
@@ -55,9 +51,9 @@ module _ {f : Pattern} (F : Sized f) (A : Accepted f) where
   line-at j h = getD-take (f .count) (f .slots) j noSlot h
 
   -- the file shows the span limits and the stated slots
-  pub text-shows : PatternShows (patternText f) (f .least) (f .most) (linesOf f)
+  pub printed-shows : PatternShows (patternText f) (f .least) (f .most) (linesOf f)
   unfolding patternText
-  text-shows =
+  printed-shows =
       showing {i = 0} {j = 1} {c = paperOrder} {least = f .least} {most = f .most} {rs = linesOf f} lm lhw (omega (arith, A .ordered, A .most)) (omega (arith, A .most))
       (small-slots (take (f .count) (f .slots)) (λ j h. let k : j < f .count = omega (arith, lines-count) in rw (line-at j k) (small-slot (F .slot j (omega (arith, A .few))) (A .slot j k))))
 
@@ -82,7 +78,7 @@ lines-same (s ∷ ss) [] e h = absurd (omega arith)
 lines-same (s ∷ ss) (u ∷ us) e h =
     ap (λ (r : SlotLine). r ∷ map lineOf ss) (h zero (omega arith)) ∙ ap (λ (rs : List SlotLine). lineOf u ∷ rs) (lines-same ss us (omega arith) (λ j k. h (suc j) (omega arith)))
 
-module _ {f g : Pattern} (F : Sized f) (G : Sized g) (A : Accepted f) (B : Accepted g) where
+module _ {f g : Pattern} (F : Typed f) (G : Typed g) (A : Accepted f) (B : Accepted g) where
   -- patterns that agree have the same lines
   agree-lines : Agree f g → linesOf f ≡ linesOf g
   agree-lines a = lines-same (take (f .count) (f .slots)) (take (g .count) (g .slots)) (lines-count F A ∙ a .count ∙ sym (lines-count G B)) (λ j h.
@@ -109,23 +105,23 @@ module _ {f g : Pattern} (F : Sized f) (G : Sized g) (A : Accepted f) (B : Accep
   pub same-bytes : (patternText f ≡ patternText g) ↔ Agree f g
   unfolding patternText
   same-bytes = (
-    λ e. let once : Same (f .least) (f .most) (linesOf f) (g .least) (g .most) (linesOf g) = pattern-once (subst (λ (s : List ℕ). PatternShows s (f .least) (f .most) (linesOf f)) e (text-shows F A)) (text-shows G B) in
+    λ e. let once : Same (f .least) (f .most) (linesOf f) (g .least) (g .most) (linesOf g) = pattern-once (subst (λ (s : List ℕ). PatternShows s (f .least) (f .most) (linesOf f)) e (printed-shows F A)) (printed-shows G B) in
         lines-agree (once .least-is) (once .most-is) (once .slots-are),
     λ a. rw (a .least, a .most, agree-lines a),
   )
 
 -- ---- entries past the stated numbers are not looked at: patterns that state the same are written alike
 
-module _ {f g : Pattern} (F : Sized f) (G : Sized g) (same : SameStated f g) where
+module _ {f g : Pattern} (F : Typed f) (G : Typed g) (same : SameStated f g) where
   text-same : patternVerdict f ≡ Fine → patternText f ≡ patternText g
   text-same e = same-bytes F G (pattern-accepted f .0 e) (pattern-accepted g .0 (sym (verdict-same same) ∙ e)) .1 (same-agree same)
 
   by-verdict : (v : Verdict) → patternVerdict f ≡ v → (room : ℕ) (out : List ℕ)
-      → (writtenBy v (length (patternText f)) room ≡ writtenBy v (length (patternText g)) room)
-      × (leftBy (writtenBy v (length (patternText f)) room) (patternText f) out ≡ leftBy (writtenBy v (length (patternText g)) room) (patternText g) out)
+      → (printedBy v (length (patternText f)) room ≡ printedBy v (length (patternText g)) room)
+      × (writtenBy (printedBy v (length (patternText f)) room) (patternText f) out ≡ writtenBy (printedBy v (length (patternText g)) room) (patternText g) out)
   by-verdict (Refused why) e room out = (refl, refl)
   by-verdict Fine e room out = let t = text-same e in (rw t, rw t)
 
   -- the answer, and what the list then holds
-  pub written-same : (out : List ℕ) → (patternWritten f (length out) ≡ patternWritten g (length out)) × (patternLeft f out ≡ patternLeft g out)
+  pub written-same : (out : List ℕ) → (patternPrinted f (length out) ≡ patternPrinted g (length out)) × (patternWritten f out ≡ patternWritten g out)
   written-same out = rw (← (verdict-same same)) (by-verdict (patternVerdict f) refl (length out) out)

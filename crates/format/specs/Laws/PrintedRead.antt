@@ -3,7 +3,7 @@ use Prim.Native.Nat.{ℕ, _-_, _≤_, _<_}
 use native.Mathlib.Omega.{arith}
 use mathlib.Core.Path.{_≡_, refl, sym, _∙_, ap}
 use mathlib.Core.List.{List}
-use lib.ListN.{length, getD, take, replicate, length-append, length-map, length-replicate, length-take, List·getD-map, List·getD-append}
+use lib.ListN.{length, getD, take, replicate, length-map, List·getD-map, List·getD-append}
 use lib.Seq.{getD-take, take-all}
 use Rattle.pattern.specs.declared.slot.Slot.{Slot}
 use Rattle.pattern.specs.declared.Pattern.{Pattern}
@@ -11,23 +11,23 @@ use Rattle.pattern.specs.Patterns.{stated, noSlot, slotAt, slotOf, padded}
 use Rattle.pattern.specs.Stated.{SameSlot, SameStated}
 use Rattle.pattern.specs.Words.{Rising}
 use Rattle.pattern.specs.Agree.{Agree}
-use Rattle.pattern.specs.Sized.{SizedSlot, Sized}
+use Rattle.pattern.specs.Typed.{TypedSlot, Typed}
 use Rattle.pattern.specs.Accepted.{AcceptedSlot, Accepted}
 use Rattle.pattern.specs.Laws.Accepting.{pattern-accepted}
-use Rattle.pattern.specs.Laws.Stated.{verdict-same}
+use Rattle.pattern.specs.Laws.Stated.{stated-count, verdict-same}
 use Rattle.pattern.specs.Laws.Agree.{same-agree}
-use Rattle.pattern.specs.Laws.Canonical.{canonical-of, sorted-same}
+use Rattle.pattern.specs.Laws.Canonical.{canonical-of, padded-eight, sorted-same}
 use Rattle.format.specs.Patterns.{madeSlot, shownPattern, patternRead}
 use Rattle.format.specs.Printed.{lineOf, linesOf, patternText}
 use Rattle.format.specs.Laws.Limits.{slot-of-line}
 use Rattle.format.specs.Laws.Reading.{accepted, pattern-read}
-use Rattle.format.specs.Laws.Printed.{line-at, lines-count, stated-count, text-shows}
+use Rattle.format.specs.Laws.Printed.{line-at, lines-count, printed-shows}
 use Rattle.format.specs.Laws.PrintedSize.{printed-size}
 
 -- the slot of the printed line
-module _ {s : Slot} (z : SizedSlot s) (a : AcceptedSlot s) (r : Rising (stated s)) where
+module _ {s : Slot} (z : TypedSlot s) (a : AcceptedSlot s) (r : Rising (stated s)) where
   few-stated : length (stated s) ≤ 8
-  few-stated = omega (arith, stated-count z a, a .few)
+  few-stated = omega (arith, stated-count s (z .eight) (a .few), a .few)
 
   line-made : madeSlot (lineOf s) ≡ slotOf (s .low) (s .high) (s .excluding) (stated s)
   line-made = canonical-of (s .low) (s .high) (s .excluding) (stated s) few-stated ∙ ap (slotOf (s .low) (s .high) (s .excluding)) (sorted-same r)
@@ -35,17 +35,14 @@ module _ {s : Slot} (z : SizedSlot s) (a : AcceptedSlot s) (r : Rising (stated s
   word-kept : (k : ℕ) → k < s .count → getD (s .words) k 0 ≡ getD (padded (stated s)) k 0
   word-kept k h =
       let all = take-all 8 (stated s) few-stated in
-      let inside : k < length (take 8 (stated s)) = rw all (omega (arith, stated-count z a)) in
+      let inside : k < length (take 8 (stated s)) = rw all (omega (arith, stated-count s (z .eight) (a .few))) in
       sym (getD-take (s .count) (s .words) k 0 h)
       ∙ ap (λ (ws : List ℕ). getD ws k 0) (sym all)
       ∙ sym (List·getD-append (take 8 (stated s)) (replicate (8 - length (stated s)) 0) 0 k inside)
 
   -- states what the slot states
   line-same : SameSlot s (madeSlot (lineOf s))
-  line-same = rw line-made (record { count = sym (stated-count z a); low = refl; high = refl; excluding = refl; word = word-kept; long = z .eight ∙ sym padded-eight })
-    where
-      padded-eight : length (padded (stated s)) ≡ 8
-      padded-eight = simp (length-append, length-take, length-replicate) (omega arith)
+  line-same = rw line-made (record { count = sym (stated-count s (z .eight) (a .few)); low = refl; high = refl; excluding = refl; word = word-kept; long = z .eight ∙ sym (padded-eight (stated s)) })
 
 -- what reading the pattern's file gives
 pub record ReadBack (f : Pattern) : Type 0 where
@@ -55,7 +52,7 @@ pub record ReadBack (f : Pattern) : Type 0 where
   pub states : SameStated f pattern
   pub agrees : Agree f pattern
 
-module _ {f : Pattern} (F : Sized f) (A : Accepted f) where
+module _ {f : Pattern} (F : Typed f) (A : Accepted f) where
   -- the pattern that the file shows
   abbrev shown : Pattern
   shown = shownPattern (f .least) (f .most) (linesOf f)
@@ -88,7 +85,7 @@ module _ {f : Pattern} (F : Sized f) (A : Accepted f) where
       least = f .least;
       most = f .most;
       slots = linesOf f;
-      shows = text-shows F A;
+      shows = printed-shows F A;
       is = refl;
       limits = shown-accepted;
     });

@@ -1,4 +1,4 @@
--- A pattern's file has at most 916 bytes.
+-- An accepted pattern's file has at most 916 bytes.
 use Prim.Native.Nat.{ℕ, zero, suc, _-_, _*_, _≤_, _<_}
 use native.Mathlib.Omega.{arith}
 use mathlib.Core.Path.{_≡_}
@@ -8,13 +8,14 @@ use lib.ListN.{length, getD, take, length-append}
 use Rattle.pattern.specs.declared.slot.Slot.{Slot}
 use Rattle.pattern.specs.declared.Pattern.{Pattern}
 use Rattle.pattern.specs.Patterns.{stated, noSlot, slotAt}
-use Rattle.pattern.specs.Sized.{SizedSlot, Sized}
+use Rattle.pattern.specs.Typed.{TypedSlot, Typed}
 use Rattle.pattern.specs.Accepted.{AcceptedSlot, Accepted}
 use Rattle.basics.specs.Laws.Digits.{few-digits, most-digits}
 use Rattle.format.specs.Shown.{closed, digits, joined, markText, slotText}
-use Rattle.format.specs.Printed.{lineOf, paperOrder, patternText, largestFile}
+use Rattle.format.specs.Printed.{lineOf, paperOrder, patternText, mostPrinted}
 use Rattle.format.specs.Laws.Printing.{digits-one, slot-length, file-length}
-use Rattle.format.specs.Laws.Printed.{line-at, lines-count, stated-count}
+use Rattle.pattern.specs.Laws.Stated.{stated-count}
+use Rattle.format.specs.Laws.Printed.{line-at, lines-count}
 
 joined-size : (ws : List ℕ) → length (joined (map digits ws) 44) ≤ 6 * length ws - 1
 unfolding joined digits
@@ -26,13 +27,13 @@ mark-size : (excluding : Bool) → length (markText excluding) ≤ 1
 mark-size true = omega arith
 mark-size false = omega arith
 
--- a gap has at most two digits on either side, the first one
+-- a bound of an accepted gap has at most two digits
 two-digits : (n : ℕ) → n ≤ 63 → length (digits n) ≤ 2
 unfolding digits
 two-digits n h = few-digits 4 1 n (omega arith)
 
 -- a slot's line has at most 55 bytes, the first slot's at most 53
-line-size : {s : Slot} → SizedSlot s → AcceptedSlot s → length (closed (slotText paperOrder (lineOf s) ∷ [])) ≤ 55
+line-size : {s : Slot} → TypedSlot s → AcceptedSlot s → length (closed (slotText paperOrder (lineOf s) ∷ [])) ≤ 55
 line-size {s} z a =
     omega (
       arith,
@@ -41,11 +42,11 @@ line-size {s} z a =
       two-digits (s .high) (a .narrow),
       mark-size (s .excluding),
       joined-size (stated s),
-      stated-count z a,
+      stated-count s (z .eight) (a .few),
       a .few,
     )
 
-first-size : {s : Slot} → SizedSlot s → AcceptedSlot s → s .high ≡ 0 → length (closed (slotText paperOrder (lineOf s) ∷ [])) ≤ 53
+first-size : {s : Slot} → TypedSlot s → AcceptedSlot s → s .high ≡ 0 → length (closed (slotText paperOrder (lineOf s) ∷ [])) ≤ 53
 first-size {s} z a e =
     omega (
       arith,
@@ -54,7 +55,7 @@ first-size {s} z a e =
       digits-one (s .high) (omega arith),
       mark-size (s .excluding),
       joined-size (stated s),
-      stated-count z a,
+      stated-count s (z .eight) (a .few),
       a .few,
     )
 
@@ -67,7 +68,7 @@ lines-size (s ∷ ss) h =
     let rest = closed (map (slotText paperOrder) (map lineOf ss)) in
     omega (arith, h zero (omega arith), later, length-append (slotText paperOrder (lineOf s)) (10 ∷ rest), length-append (slotText paperOrder (lineOf s)) (10 ∷ []))
 
-module _ {f : Pattern} (F : Sized f) (A : Accepted f) where
+module _ {f : Pattern} (F : Typed f) (A : Accepted f) where
   at-most : (j : ℕ) → j < f .count → length (closed (slotText paperOrder (lineOf (slotAt f j)) ∷ [])) ≤ 55
   at-most j h = line-size (F .slot j (omega (arith, A .few))) (A .slot j h)
 
@@ -80,8 +81,8 @@ module _ {f : Pattern} (F : Sized f) (A : Accepted f) where
       let later : length rest ≤ 55 * length ss = lines-size ss (λ j h. rw (at (suc j) (omega arith)) (at-most (suc j) (omega arith))) in
       omega (arith, A .few, first, later, length-append (slotText paperOrder (lineOf s)) (10 ∷ rest), length-append (slotText paperOrder (lineOf s)) (10 ∷ []))
 
-  -- a pattern's file has at most 916 bytes
-  pub printed-size : length (patternText f) ≤ largestFile
+  -- an accepted pattern's file has no more bytes
+  pub printed-size : length (patternText f) ≤ mostPrinted
   unfolding digits
   printed-size =
       omega (

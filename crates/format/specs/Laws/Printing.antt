@@ -9,6 +9,7 @@ use lib.ListN.{length, getD, take, length-append, length-take}
 use lib.Seq.{take-suc, getD-take, take-all}
 use borrow.Author.Tests.{lt-ltb, le-ltb, ne-eqb}
 use Rattle.basics.specs.Digits.{digitsIn}
+use Rattle.basics.specs.Laws.Collections.{map-append}
 use Rattle.basics.specs.Laws.Digits.{digits-wide}
 use Rattle.pattern.specs.declared.slot.Slot.{Slot}
 use Rattle.pattern.specs.declared.Pattern.{Pattern}
@@ -57,10 +58,6 @@ unfolding digits
 digits-written n h = sym (digits-wide 15 4 n (omega arith))
 
 -- ---- the words of a slot
-
-map-append : {A B : Type 0} (f : A → B) (xs ys : List A) → map f (xs ++ ys) ≡ map f xs ++ map f ys
-map-append f [] ys = refl
-map-append f (x ∷ xs) ys = ap (λ l. f x ∷ l) (map-append f xs ys)
 
 joined-last : (p : List ℕ) (ps : List (List ℕ)) (q : List ℕ) (sep : ℕ) → joined ((p ∷ ps) ++ (q ∷ [])) sep ≡ joined (p ∷ ps) sep ++ (sep ∷ q)
 unfolding joined

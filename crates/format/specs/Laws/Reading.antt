@@ -8,7 +8,7 @@ use mathlib.Core.Path.{_≡_, refl, sym, _∙_, ap, subst}
 use lib.Dec.{ltb}
 use lib.ListN.{length}
 use borrow.Author.Tests.{le-ltb, ltb-false}
-use Rattle.pattern.specs.Laws.Accepting.{pattern-accepted}
+use Rattle.pattern.specs.Laws.Accepting.{pattern-accepted, refused-fine}
 use Rattle.basics.specs.Choice.{pick}
 use Rattle.pattern.specs.Tests.{patternVerdict}
 use Rattle.pattern.specs.declared.Pattern.{Pattern}
@@ -49,9 +49,6 @@ verdict-of e = ap (λ (r : PatternRead). r .verdict) e
 
 pattern-in : {p q : PatternRead} → p ≡ q → p .pattern ≡ q .pattern
 pattern-in e = ap (λ (r : PatternRead). r .pattern) e
-
-refused-fine : {why : Refusal} → Refused why ≡ Fine → ⊥
-refused-fine e = let z : _≡_ {A = ℕ} 0 1 = cc in omega arith
 
 judged-fine : (v : Verdict) (g f : Pattern) → judgedBy v g ≡ accepted f → (v ≡ Fine) × (g ≡ f)
 judged-fine Fine g f e = (refl, pattern-in e)

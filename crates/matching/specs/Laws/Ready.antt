@@ -19,7 +19,7 @@ ready f n e =
     let a = input-accepted f n .0 e in
     record { some = a .pattern .some; few = a .pattern .few; least = a .pattern .least; short = a .short }
 
--- what the tests 1 to 7 leave to the searches
+-- what the tests up to 7 leave to the searches
 pub record RowAccepted (f : Pattern) (t row : List ℕ) : Type 0 where
   pub ready : Ready f (length t)
   pub size : length row ≡ f .count

@@ -25,9 +25,9 @@ pub record SameView (m : ℕ) (v w : View) : Type 0 where
   pub fits : (j : ℕ) → j < m → (p : ℕ) → v .fits j p ≡ w .fits j p
   pub ends : (p : ℕ) → v .ends p ≡ w .ends p
 
-module _ {f g : Pattern} (same : Agree f g) where
+module _ {f g : Pattern} (agree : Agree f g) where
   pub plain-same : (t : List ℕ) → SameView (f .count) (plain f t) (plain g t)
-  plain-same t = record { places = refl; fits = λ j h p. agree-takes (same .slot j h) (wordAt t p); ends = λ p. refl }
+  plain-same t = record { places = refl; fits = λ j h p. agree-takes (agree .slot j h) (wordAt t p); ends = λ p. refl }
 
   module _ {v w : View} (alike : SameView (f .count) v w) where
     pub occurs-same : (r : List ℕ) → occursIn f v r ≡ occursIn g w r
@@ -37,59 +37,58 @@ module _ {f g : Pattern} (same : Agree f g) where
         let gaps = each-same (f .count - 1)
         (λ j. within (at r j + slotAt f (j + 1) .low + 1) (at r (j + 1)) (at r j + slotAt f (j + 1) .high + 1))
         (λ j. within (at r j + slotAt g (j + 1) .low + 1) (at r (j + 1)) (at r j + slotAt g (j + 1) .high + 1))
-        (λ j h. rw (same .slot (j + 1) (omega arith) .low, same .slot (j + 1) (omega arith) .high)) in
+        (λ j h. rw (agree .slot (j + 1) (omega arith) .low, agree .slot (j + 1) (omega arith) .high)) in
         let ends : v .ends ≡ w .ends = fun-ext (alike .ends) in
-        rw (fits, gaps, ends, same .count, same .least, same .most, alike .places)
+        rw (fits, gaps, ends, agree .count, agree .least, agree .most, alike .places)
 
     pub occurrences-same : occurrencesIn f v ≡ occurrencesIn g w
     unfolding occurrencesIn
     occurrences-same =
         let tests : occursIn f v ≡ occursIn g w = fun-ext occurs-same in
-        rw (tests, same .count, alike .places)
+        rw (tests, agree .count, alike .places)
 
     pub leftmost-same : leftmostIn f v ≡ leftmostIn g w
     unfolding leftmostIn
-    leftmost-same = rw (occurrences-same, same .count, alike .places)
+    leftmost-same = rw (occurrences-same, agree .count, alike .places)
 
     pub rightmost-same : rightmostIn f v ≡ rightmostIn g w
     unfolding rightmostIn
-    rightmost-same = rw (occurrences-same, same .count, alike .places)
+    rightmost-same = rw (occurrences-same, agree .count, alike .places)
 
-  -- the occurrences in a text
-  pub agree-occurrences : (t : List ℕ) → occurrences f t ≡ occurrences g t
-  agree-occurrences t = occurrences-same (plain-same t)
+  -- ---- in a text
+
+  module _ (t : List ℕ) where
+    pub agree-occurs : (r : List ℕ) → occurs f t r ≡ occurs g t r
+    agree-occurs r = occurs-same (plain-same t) r
+
+    pub agree-occurrences : occurrences f t ≡ occurrences g t
+    agree-occurrences = occurrences-same (plain-same t)
+
+    pub agree-leftmost : leftmost f t ≡ leftmost g t
+    agree-leftmost = leftmost-same (plain-same t)
+
+    pub agree-rightmost : rightmost f t ≡ rightmost g t
+    agree-rightmost = rightmost-same (plain-same t)
 
 -- ---- what the calls answer for a text
 
 module _ {f g : Pattern} (same : SameStated f g) (t : List ℕ) where
-  pub same-occurs : (r : List ℕ) → occurs f t r ≡ occurs g t r
-  same-occurs r = occurs-same (same-agree same) (plain-same (same-agree same) t) r
-
-  pub same-occurrences : occurrences f t ≡ occurrences g t
-  same-occurrences = agree-occurrences (same-agree same) t
-
-  same-leftmost : leftmost f t ≡ leftmost g t
-  same-leftmost = leftmost-same (same-agree same) (plain-same (same-agree same) t)
-
-  same-rightmost : rightmost f t ≡ rightmost g t
-  same-rightmost = rightmost-same (same-agree same) (plain-same (same-agree same) t)
-
   pub row-same : (row : List ℕ) → rowVerdict f t row ≡ rowVerdict g t row
   unfolding rowVerdict
   row-same row = rw (input-same same (length t), same .count)
 
   pub first-same : (marks : List ℕ) → firstAfter f t marks ≡ firstAfter g t marks
-  first-same marks = rw (row-same marks, same-occurrences, same .count)
+  first-same marks = rw (row-same marks, agree-occurrences (same-agree same) t, same .count)
 
   pub last-same : (marks : List ℕ) → lastBefore f t marks ≡ lastBefore g t marks
-  last-same marks = rw (row-same marks, same-occurrences, same .count)
+  last-same marks = rw (row-same marks, agree-occurrences (same-agree same) t, same .count)
 
   -- whatever is made of the verdict, the number of slots and the three lists of rows
   pub answers-same : {A : Type 0} (answer : Verdict → ℕ → List (List ℕ) → List (List ℕ) → List (List ℕ) → A)
       → answer (inputVerdict f (length t)) (f .count) (occurrences f t) (leftmost f t) (rightmost f t)
       ≡ answer (inputVerdict g (length t)) (g .count) (occurrences g t) (leftmost g t) (rightmost g t)
   answers-same answer =
-      rw (same-leftmost, same-rightmost, same-occurrences, input-same same (length t), same .count)
+      rw (agree-leftmost (same-agree same) t, agree-rightmost (same-agree same) t, agree-occurrences (same-agree same) t, input-same same (length t), same .count)
 
   -- the answer of the front list's call, and what the caller's list l then holds; the same of the back list; the count
   pub front-same : (l : List ℕ) → (frontListed f t (length l) ≡ frontListed g t (length l)) × (frontWritten f t l ≡ frontWritten g t l)

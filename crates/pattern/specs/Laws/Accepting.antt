@@ -21,7 +21,7 @@ use Rattle.pattern.specs.Accepted.{AcceptedSlot, Accepted, AcceptedInput
 use Rattle.pattern.specs.Laws.Members.{member-false}
 use Rattle.pattern.specs.Laws.Words.{rises-iff}
 
-refused-fine : {why : Refusal} → Refused why ≡ Fine → ⊥
+pub refused-fine : {why : Refusal} → Refused why ≡ Fine → ⊥
 refused-fine e = let z : _≡_ {A = ℕ} 0 1 = cc in omega arith
 
 -- a test followed by others accepts where it does not apply and they accept
@@ -137,12 +137,12 @@ slots-accepted test P told f (suc n) j = (
 )
 
 -- what the tests 2, 3 and 4 accept
-abbrev Limits : ℕ → Slot → Type 0
-Limits j s = AcceptedSlot s × (j ≡ 0 → s .high ≡ 0)
+abbrev SlotWithin : ℕ → Slot → Type 0
+SlotWithin j s = AcceptedSlot s × (j ≡ 0 → s .high ≡ 0)
 
 -- what 16 accepts
-abbrev InOrder : ℕ → Slot → Type 0
-InOrder j s = Rising (stated s)
+abbrev pub WordsRise : ℕ → Slot → Type 0
+WordsRise j s = Rising (stated s)
 
 -- ---- a pattern, and a text with it
 
@@ -160,11 +160,11 @@ span-accepted least most = (
       (accepted-refuse (ltb 20000 most) Span _ (le-ltb 20000 most (p .1 .1)) refl)),
 )
 
--- what the tests 1 to 5 accept, but for the order of words
+-- what the tests 1 to 5 accept: all of `Accepted` but the order of words
 record Within (f : Pattern) : Type 0 where
   some : 1 ≤ f .count
   few : f .count ≤ 16
-  slot : (j : ℕ) → j < f .count → Limits j (slotAt f j)
+  slot : (j : ℕ) → j < f .count → SlotWithin j (slotAt f j)
   span : (1 ≤ f .least) × ((f .least ≤ f .most) × (f .most ≤ 20000))
 
 limits-accepted : (f : Pattern) → (limitsVerdict f ≡ Fine) ↔ Within f
@@ -174,7 +174,7 @@ limits-accepted f = (
       let a = refuse-accepted (eqb (f .count) 0) SlotCount _ e in
       let b = refuse-accepted (ltb 16 (f .count)) SlotCount _ (a .1) in
       let d = then-accepted (slotsVerdict slotVerdict f 0 (f .count)) (spanVerdict (f .least) (f .most)) (b .1) in
-      let slots = slots-accepted slotVerdict Limits slot-accepted f (f .count) 0 .0 (d .0) in
+      let slots = slots-accepted slotVerdict SlotWithin slot-accepted f (f .count) 0 .0 (d .0) in
       record {
         some = positive (f .count) (eqb-false (f .count) 0 (a .0));
         few = ltb-false 16 (f .count) (b .0);
@@ -185,7 +185,7 @@ limits-accepted f = (
       accepted-refuse (eqb (f .count) 0) SlotCount _ (ne-eqb (f .count) 0 (λ e. omega (arith, a .some)))
       (accepted-refuse (ltb 16 (f .count)) SlotCount _ (le-ltb 16 (f .count) (a .few))
       (accepted-then (slotsVerdict slotVerdict f 0 (f .count)) (spanVerdict (f .least) (f .most))
-      (slots-accepted slotVerdict Limits slot-accepted f (f .count) 0 .1 (λ i l h. a .slot i (omega arith)))
+      (slots-accepted slotVerdict SlotWithin slot-accepted f (f .count) 0 .1 (λ i l h. a .slot i (omega arith)))
       (span-accepted (f .least) (f .most) .1 (a .span)))),
 )
 
@@ -202,7 +202,7 @@ pattern-accepted f = (
   λ e.
       let d = then-accepted (limitsVerdict f) (slotsVerdict orderVerdict f 0 (f .count)) e in
       let limits = limits-accepted f .0 (d .0) in
-      let order = slots-accepted orderVerdict InOrder order-accepted f (f .count) 0 .0 (d .1) in
+      let order = slots-accepted orderVerdict WordsRise order-accepted f (f .count) 0 .0 (d .1) in
       record {
         some = limits .some;
         few = limits .few;
@@ -216,7 +216,7 @@ pattern-accepted f = (
   λ a.
       accepted-then (limitsVerdict f) (slotsVerdict orderVerdict f 0 (f .count))
       (limits-accepted f .1 (record { some = a .some; few = a .few; slot = λ j h. (a .slot j h, λ z. rw z (a .first)); span = (a .least, (a .ordered, a .most)) }))
-      (slots-accepted orderVerdict InOrder order-accepted f (f .count) 0 .1 (λ i l h. a .rising i (omega arith))),
+      (slots-accepted orderVerdict WordsRise order-accepted f (f .count) 0 .1 (λ i l h. a .rising i (omega arith))),
 )
 
 pub input-accepted : (f : Pattern) (n : ℕ) → (inputVerdict f n ≡ Fine) ↔ AcceptedInput f n

@@ -3,18 +3,18 @@ use Prim.Native.Nat.{ℕ, _<_}
 use native.Mathlib.Omega.{arith}
 use mathlib.Core.Path.{_≡_, refl, sym, _∙_, ap}
 use mathlib.Core.List.{List}
-use lib.ListN.{length, getD, length-take}
+use lib.ListN.{length, getD}
 use lib.Seq.{getD-take}
 use Rattle.pattern.specs.declared.slot.Slot.{Slot}
 use Rattle.pattern.specs.declared.Pattern.{Pattern}
 use Rattle.pattern.specs.Patterns.{stated, takes, slotAt}
 use Rattle.pattern.specs.Stated.{SameSlot, SameStated}
 use Rattle.pattern.specs.Agree.{AgreeSlot, Agree}
-use Rattle.pattern.specs.Sized.{Sized}
+use Rattle.pattern.specs.Typed.{Typed}
 use Rattle.pattern.specs.Accepted.{Accepted}
 use Rattle.pattern.specs.Laws.Members.{member-set}
 use Rattle.pattern.specs.Laws.Words.{rising-once}
-use Rattle.pattern.specs.Laws.Stated.{stated-same}
+use Rattle.pattern.specs.Laws.Stated.{stated-count, stated-same}
 
 -- ---- an equivalence
 
@@ -56,7 +56,7 @@ pub same-agree : {f g : Pattern} → SameStated f g → Agree f g
 same-agree same = record { count = same .count; least = same .least; most = same .most; slot = λ j h. same-slot (same .slot j h) }
 
 -- and accepted patterns that agree state the same
-module _ {f g : Pattern} (F : Sized f) (G : Sized g) (A : Accepted f) (B : Accepted g) (a : Agree f g) where
+module _ {f g : Pattern} (F : Typed f) (G : Typed g) (A : Accepted f) (B : Accepted g) (a : Agree f g) where
   -- word for word
   pub agree-stated : (j : ℕ) → j < f .count → stated (slotAt f j) ≡ stated (slotAt g j)
   agree-stated j h = rising-once (A .rising j h) (B .rising j (omega (arith, a .count))) (a .slot j h .words)
@@ -68,11 +68,11 @@ module _ {f g : Pattern} (F : Sized f) (G : Sized g) (A : Accepted f) (B : Accep
     other : j < g .count
     other = omega (arith, a .count)
 
-    stated-count : {p : Pattern} → Sized p → Accepted p → (i : ℕ) → i < p .count → length (stated (slotAt p i)) ≡ slotAt p i .count
-    stated-count P C i k = let e = P .slot i (omega (arith, C .few)) .eight in let l = C .slot i k .few in simp length-take (omega arith)
-
     counts : slotAt f j .count ≡ slotAt g j .count
-    counts = sym (stated-count F A j h) ∙ ap (λ (l : List ℕ). length l) (agree-stated j h) ∙ stated-count G B j other
+    counts =
+        sym (stated-count (slotAt f j) (F .slot j few .eight) (A .slot j h .few))
+        ∙ ap (λ (l : List ℕ). length l) (agree-stated j h)
+        ∙ stated-count (slotAt g j) (G .slot j few .eight) (B .slot j other .few)
 
     word : (k : ℕ) → k < slotAt f j .count → getD (slotAt f j .words) k 0 ≡ getD (slotAt g j .words) k 0
     word k l =

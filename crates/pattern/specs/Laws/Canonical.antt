@@ -6,18 +6,19 @@ use mathlib.Core.Path.{_≡_, refl, sym, _∙_, ap}
 use mathlib.Core.Logic.{_↔_}
 use mathlib.Core.Bool.{Bool, true, false}
 use mathlib.Core.List.{List, [], _∷_, _++_, List·Memᴰ}
-use lib.ListN.{length, take, replicate, length-take}
+use lib.ListN.{length, take, replicate, length-append, length-replicate, length-take}
 use lib.Seq.{take-all}
 use lib.Dec.{ltb}
 use borrow.Author.Tests.{lt-ltb, le-ltb}
 use Rattle.pattern.specs.declared.slot.Slot.{Slot}
-use Rattle.pattern.specs.Patterns.{member, stated, lists, slotOf}
+use Rattle.pattern.specs.Patterns.{member, stated, lists, padded, slotOf}
 use Rattle.pattern.specs.Words.{Rising, sorted, canonical}
 use Rattle.pattern.specs.Agree.{AgreeSlot}
 use Rattle.pattern.specs.Tests.{fewestWords, slotVerdict}
 use Rattle.pattern.specs.Laws.Members.{member-set}
 use Rattle.pattern.specs.Laws.Words.{rising-once, sorted-rising, sorted-mem, sorted-length, sorted-some}
 use Rattle.pattern.specs.Laws.Agree.{agree-slot}
+use Rattle.pattern.specs.Laws.Stated.{stated-count}
 
 -- ---- which slot it is
 
@@ -33,6 +34,10 @@ canonical-many s h = rw (lt-ltb 8 (s .count) h)
 take-front : (ws zs : List ℕ) → take (length ws) (ws ++ zs) ≡ ws
 take-front [] zs = refl
 take-front (w ∷ ws) zs = ap (λ (l : List ℕ). w ∷ l) (take-front ws zs)
+
+-- eight entries
+pub padded-eight : (ws : List ℕ) → length (padded ws) ≡ 8
+padded-eight ws = simp (length-append, length-take, length-replicate) (omega arith)
 
 -- a slot made of at most eight words states these
 pub slot-stated : (low high : ℕ) (excluding : Bool) (ws : List ℕ) → length ws ≤ 8 → stated (slotOf low high excluding ws) ≡ ws
@@ -75,9 +80,8 @@ few-same false ws =
     ]
 
 module _ (s : Slot) (few : s .count ≤ 8) (eight : length (s .words) ≡ 8) where
-  -- as many words as are stated
   all : length (stated s) ≡ s .count
-  all = simp length-take (omega arith)
+  all = stated-count s eight few
 
   first : ltb (length (sorted (stated s))) (fewestWords (s .excluding)) ≡ ltb (s .count) (fewestWords (s .excluding))
   first = few-same (s .excluding) (stated s) ∙ ap (λ (n : ℕ). ltb n (fewestWords (s .excluding))) all

@@ -2,7 +2,7 @@
 use Prim.Native.Nat.{ℕ, zero, suc, _+_, _≤_, _<_}
 use native.Mathlib.Omega.{arith}
 use native.Mathlib.Decide.{decLt}
-use mathlib.Core.Path.{_≡_, refl, _∙_, ap}
+use mathlib.Core.Path.{_≡_, refl, sym, _∙_, ap}
 use mathlib.Core.Bool.{Bool, true, false}
 use lib.ListN.{length}
 use lib.Dec.{ltb, eqb}
@@ -14,15 +14,15 @@ use Rattle.pattern.specs.declared.refusal.Refusal.the-variants.{SlotCoun
 use Rattle.pattern.specs.declared.refusal.Verdict.{Verdict}
 use Rattle.pattern.specs.declared.refusal.Verdict.the-variants.{Accepted, Refused}
 use Rattle.pattern.specs.Refusals.{numberOf}
-use Rattle.pattern.specs.Patterns.{stated, lists, slotAt}
-use Rattle.pattern.specs.Words.{Rising, canonical}
+use Rattle.pattern.specs.Patterns.{lists, slotAt}
+use Rattle.pattern.specs.Words.{canonical}
 use Rattle.pattern.specs.Tests.{refuse, andThen, widestGap, fewestWords, slotVerdict, orderVerdict, slotsVerdict, spanVerdict, limitsVerdict, patternVerdict}
-use Rattle.pattern.specs.Laws.Accepting.{slots-accepted, order-accepted, limits-slots, limits-few}
+use Rattle.pattern.specs.Laws.Accepting.{WordsRise, refused-fine, slots-accepted, order-accepted, limits-slots, limits-few}
 use Rattle.pattern.specs.Laws.Canonical.{canonical-verdict, canonical-rising}
 
 -- ---- a pattern that holds the slots of another
 
--- g has the slots of f, their words in rising order, each once
+-- the slots of g are those of f as `canonical` puts them; of the latter's words there are eight
 pub record Holds (g f : Pattern) : Type 0 where
   pub count : g .count ≡ f .count
   pub least : g .least ≡ f .least
@@ -50,7 +50,7 @@ module _ {g f : Pattern} (H : Holds g f) where
 
   order-held : limitsVerdict f ≡ Accepted → f .count ≤ 16 → slotsVerdict orderVerdict g 0 (g .count) ≡ Accepted
   order-held e few =
-      slots-accepted orderVerdict (λ j s. Rising (stated s)) order-accepted g (g .count) 0 .1
+      slots-accepted orderVerdict WordsRise order-accepted g (g .count) 0 .1
       (λ i l h. let k : i < f .count = omega (arith, H .count) in rw (H .slot i k (omega arith)) (canonical-rising (slotAt f i) (limits-few f e i k)))
 
   -- and 16 adds nothing to them
@@ -71,11 +71,8 @@ Early v = (why : Refusal) → v ≡ Refused why → numberOf why ≤ 5
 refused-is : {a b : Refusal} → Refused a ≡ Refused b → a ≡ b
 refused-is e = cc
 
-accepted-not : {a : Refusal} → Accepted ≡ Refused a → ⊥
-accepted-not e = let z : _≡_ {A = ℕ} 0 1 = cc in omega arith
-
 early-none : Early Accepted
-early-none why e = absurd (accepted-not e)
+early-none why e = absurd (refused-fine (sym e))
 
 early-refuse : (applies : Bool) (here : Refusal) (later : Verdict) → numberOf here ≤ 5 → Early later → Early (refuse applies here later)
 early-refuse true here later h l why e = rw (← (refused-is e)) h

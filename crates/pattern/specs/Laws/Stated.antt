@@ -4,7 +4,7 @@ use Prim.Native.Nat.{ℕ, zero, suc, _+_, _≤_, _<_}
 use native.Mathlib.Omega.{arith}
 use mathlib.Core.Path.{_≡_, refl}
 use mathlib.Core.List.{List, [], _∷_}
-use lib.ListN.{length, getD, take}
+use lib.ListN.{length, getD, take, length-take}
 use Rattle.pattern.specs.declared.slot.Slot.{Slot}
 use Rattle.pattern.specs.declared.Pattern.{Pattern}
 use Rattle.pattern.specs.Patterns.{stated}
@@ -21,6 +21,10 @@ take-same (suc n) (x ∷ l) (y ∷ m) e h =
     let first : x ≡ y = h zero (omega arith) in
     let rest : take n l ≡ take n m = take-same n l m (omega arith) (λ k b. h (suc k) (omega arith)) in
     rw (first, rest)
+
+-- as many words as the stated number, up to the eight that there are
+pub stated-count : (s : Slot) → length (s .words) ≡ 8 → s .count ≤ 8 → length (stated s) ≡ s .count
+stated-count s eight few = simp length-take (omega arith)
 
 -- the same words
 pub stated-same : {s u : Slot} → SameSlot s u → stated s ≡ stated u

@@ -6,7 +6,7 @@ use mathlib.Core.List.{List, map}
 use lib.ListN.{length, take}
 use Rattle.format.specs.Shown.{closed, slotText}
 use Rattle.format.specs.Printed.{lineOf, paperOrder}
-use Rattle.format.proofs.Known.{pattern-sized}
+use Rattle.format.proofs.Known.{pattern-typed}
 use Rattle.format.specs.Laws.Printing.{no-lines, lines-sized}
 use borrow.Author.Needs.{needs}
 use Rattle.format.proofs.sizes.slots_size.Statement.{statement}
@@ -45,7 +45,7 @@ loop-again c =
     let l = test .before in
     let start = l .before in
     let p = start .args .t1 in
-    let sixteen = pattern-sized p _ (start .good .0) .sixteen in (
+    let sixteen = pattern-typed p _ (start .good .0) .sixteen in (
       search needs,
       lines-sized (p .slots) (l .loop .j) (l .loop .size) (c .slot-size .result) (omega (arith, sixteen, start .pre, test .loop-test .taken)) (l .loop .inv .1) (c .slot-size .ensures .0),
       omega (arith, l .loop .inv .2, c .slot-size .ensures .1),

@@ -8,7 +8,7 @@ use Rattle.basics.specs.Writing.{Writes}
 use Rattle.basics.specs.Laws.Writing.{writes-none, writes-same, writes-then}
 use Rattle.format.specs.Shown.{closed, slotText}
 use Rattle.format.specs.Printed.{lineOf, paperOrder}
-use Rattle.format.proofs.Known.{pattern-sized}
+use Rattle.format.proofs.Known.{pattern-typed}
 use Rattle.format.specs.Laws.Printing.{no-lines, lines-more}
 use borrow.Author.Needs.{needs}
 use Rattle.format.proofs.writing.put_slots.Statement.{statement}
@@ -45,7 +45,7 @@ loop-again c =
     let l = test .before in
     let start = l .before .before in
     let p = start .args .t3 in
-    let sixteen = pattern-sized p _ (start .good .1 .1 .0) .sixteen in (
+    let sixteen = pattern-typed p _ (start .good .1 .1 .0) .sixteen in (
       search needs,
       put .put-slot .kept .0 ∙ l .loop .inv .1,
       writes-same (sym (lines-more (p .slots) (l .loop .j) (omega (arith, sixteen, start .pre, test .loop-test .taken)))) (writes-then (l .loop .inv .2) (put .put-slot .ensures)),

@@ -10,7 +10,7 @@ use Rattle.pattern.specs.Tests.{patternVerdict}
 use Rattle.pattern.specs.declared.refusal.Verdict.the-variants.{Accepted}
 use Rattle.format.specs.Printed.{patternText}
 use Rattle.format.specs.declared.writing.PatternWritten.the-variants.{Bytes}
-use Rattle.format.proofs.Known.{pattern-sized}
+use Rattle.format.proofs.Known.{pattern-typed}
 use borrow.Author.Needs.{needs}
 use Rattle.format.proofs.writing.write_pattern.Statement.{statement}
 use Rattle.format.proofs.writing.write_pattern.Tie as tie
@@ -42,7 +42,7 @@ returns c =
     let test = c .before .before .before in
     let start = test .before .before in
     let e = sym (test .check .ensures) ∙ c .before .verdict .given .1 in
-    (rw e, (rw e, (pattern-sized (start .args .pattern) _ (start .good .0), refl)))
+    (rw e, (rw e, (pattern-typed (start .args .pattern) _ (start .good .0), refl)))
 
 enum-told : tie.Need-enum-told
 enum-told c = search needs
@@ -58,7 +58,7 @@ returns-2 c =
     let short : length (start .args .out .now) < length text = omega (arith, c .before .pattern-size .ensures, c .if1 .taken) in
     let e = accepted told in
     let t = lt-ltb (length (start .args .out .now)) (length text) short in
-    (rw (e, t), (rw (e, t), (pattern-sized (start .args .pattern) _ (start .good .0), refl)))
+    (rw (e, t), (rw (e, t), (pattern-typed (start .args .pattern) _ (start .good .0), refl)))
 
 put-pattern-requires : tie.Need-put-pattern-requires
 put-pattern-requires c κs = few (c .before .before .before)
@@ -74,13 +74,15 @@ returns-3 c =
     let start = start-of told in
     let text = patternText (start .args .pattern) in
     let size = room .before .pattern-size .ensures in
+    let written = writes-all (put .put-pattern .ensures) in
     let fits : length text ≤ length (start .args .out .now) = omega (arith, size, room .if1 .left) in
+    let end : put .put-pattern .result ≡ length text = omega (arith, written .0) in
     let e = accepted told in
     let t = le-ltb (length (start .args .out .now)) (length text) fits in (
-      rw (e, t) (ap Bytes size),
+      rw (e, t) (ap Bytes end),
       (
-        rw (e, t) (writes-all (put .put-pattern .ensures) .1 ∙ overlaid-short text (start .args .out .now) fits),
-        (pattern-sized (start .args .pattern) _ (start .good .0), refl),
+        rw (e, t) (written .1 ∙ overlaid-short text (start .args .out .now) fits),
+        (pattern-typed (start .args .pattern) _ (start .good .0), refl),
       ),
     )
 

@@ -1,4 +1,4 @@
--- `row_verdict` meets its contract: tests 1 to 6 are `check_with`, and test 7 is the last branch.
+-- `row_verdict` meets its contract: the tests up to 6 are `check_with`, and test 7 is the last branch.
 use mathlib.Core.Path.{sym, _∙_}
 use borrow.Author.Tests.{eq-eqb, ne-eqb}
 use Rattle.matching.specs.Answers.{rowVerdict}

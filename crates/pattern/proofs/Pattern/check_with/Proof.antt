@@ -1,4 +1,4 @@
--- `pattern::Pattern::check_with` meets its contract: tests 1 to 5 are `check`, and test 6 is the last branch.
+-- `pattern::Pattern::check_with` meets its contract: the tests up to 16 are `check`, and test 6 is the last branch.
 use mathlib.Core.Path.{sym, _∙_}
 use borrow.Author.Tests.{lt-ltb, le-ltb}
 use Rattle.pattern.specs.Tests.{inputVerdict}

@@ -6,10 +6,10 @@ use Rattle.pattern.specs.declared.slot.Slot.{Slot}
 use Rattle.pattern.specs.declared.Pattern.{Pattern}
 use Rattle.pattern.specs.Patterns.{slotAt}
 
-pub record SizedSlot (s : Slot) : Type 0 where
+pub record TypedSlot (s : Slot) : Type 0 where
   pub eight : length (s .words) ≡ 8
   pub word : (k : ℕ) → getD (s .words) k 0 ≤ 65535
 
-pub record Sized (f : Pattern) : Type 0 where
+pub record Typed (f : Pattern) : Type 0 where
   pub sixteen : length (f .slots) ≡ 16
-  pub slot : (j : ℕ) → j < 16 → SizedSlot (slotAt f j)
+  pub slot : (j : ℕ) → j < 16 → TypedSlot (slotAt f j)
