@@ -1,4 +1,4 @@
--- What a pattern is, which patterns are refused and why. `Laws` has what follows.
+-- What a pattern is, which patterns are refused and why. `Laws` has what follows, `Steps` the contracts inside.
 pub mod Patterns
 pub mod Words
 pub mod Numbers

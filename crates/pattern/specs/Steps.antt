@@ -1,2 +1,2 @@
--- Contracts of the functions inside the crate.
+-- The contracts of the functions inside this crate.
 pub mod Least
