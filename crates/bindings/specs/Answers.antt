@@ -22,8 +22,8 @@ use Rattle.format.specs.declared.patterns.PatternRead.{PatternRead}
 use Rattle.format.specs.declared.reader.Line.{Line}
 use Rattle.format.specs.declared.texts.TextRead.{TextRead}
 use Rattle.format.specs.declared.texts.TextRead.the-variants.{Words, Refused as NoText}
-use Rattle.format.specs.declared.writing.PatternWritten.{PatternWritten}
-use Rattle.format.specs.declared.writing.PatternWritten.the-variants.{Bytes, Refused as NotWritten}
+use Rattle.printing.specs.declared.writing.PatternWritten.{PatternWritten}
+use Rattle.printing.specs.declared.writing.PatternWritten.the-variants.{Bytes, Refused as NotWritten}
 use Rattle.cursors.specs.declared.Cursors.{Cursors}
 use Rattle.cursors.specs.declared.Served.{Served}
 use Rattle.cursors.specs.declared.Rewound.{Rewound}

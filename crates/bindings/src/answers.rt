@@ -1,12 +1,12 @@
 use cursors::Cursors;
 use excerpts::Tested;
-use format::PatternWritten;
 use format::TextRead;
 use matching::Listed;
 use matching::Outcome;
 use pattern::Pattern;
 use pattern::Refusal;
 use pattern::Verdict;
+use printing::PatternWritten;
 ghost use mathlib.Core.Path.{_≡_};
 ghost use Rattle.bindings.specs.Answers.{refused, value, ofVerdict, ofListed, ofTextRead, ofWritten, ofTested, ofOutcome, withPattern};
 

@@ -13,7 +13,7 @@ ghost use lib.ListN.{length};
 ghost use Rattle.format.specs.Input.{inputRead, inputWritten};
 ghost use Rattle.format.specs.Lines.{lineAt};
 ghost use Rattle.format.specs.Patterns.{patternRead};
-ghost use Rattle.format.specs.Printed.{patternPrinted, patternWritten};
+ghost use Rattle.printing.specs.Printed.{patternPrinted, patternWritten};
 ghost use Rattle.format.specs.Texts.{textRead, textWritten};
 ghost use Rattle.basics.specs.Writing.{overlaid};
 ghost use Rattle.report.specs.Report.{reported};
@@ -96,7 +96,7 @@ pub extern "C" fn bedbloomer_write_pattern(pattern: Pattern, out: &mut [u8]) -> 
     ensures { λ r. ⌜ r ≡ ofWritten (patternPrinted pattern (length (now (out .entry)))) ⌝ }
     ensures { λ _. ⌜ now (out .exit) ≡ patternWritten pattern (now (out .entry)) ⌝ }
 {
-    let written = format::write_pattern(pattern, out);
+    let written = printing::write_pattern(pattern, out);
     of_written(written)
 }
 

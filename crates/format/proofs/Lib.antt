@@ -8,4 +8,3 @@ mod WordSteps
 mod TextSteps
 mod InputSteps
 mod PatternSteps
-mod Known

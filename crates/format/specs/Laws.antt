@@ -10,10 +10,6 @@ pub mod PatternPrinted
 pub mod PatternShown
 pub mod Limits
 pub mod Reading
-pub mod Printing
-pub mod Printed
-pub mod PrintedSize
-pub mod PrintedRead
 pub mod Rearranged
 pub mod Input
 pub mod Examples

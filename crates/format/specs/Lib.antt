@@ -8,6 +8,5 @@ pub mod Words
 pub mod Patterns
 pub mod Input
 pub mod Shown
-pub mod Printed
 pub mod Steps
 pub mod Laws

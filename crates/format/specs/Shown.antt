@@ -65,6 +65,10 @@ two i a b = pick (eqb i 0) (a ∷ b ∷ []) (b ∷ a ∷ [])
 abbrev pub oneOf : {A : Type 0} → Columns → ℕ → A → A → A → A
 oneOf c k l h w = pick (eqb (c .low) k) l (pick (eqb (c .high) k) h w)
 
+-- the columns of `low high words`, as document 01 has these names
+abbrev pub paperOrder : Columns
+paperOrder = record { low = 0; high = 1; words = 2 }
+
 -- three things, each in its column
 abbrev pub three : {A : Type 0} → Columns → A → A → A → List A
 three c l h w = oneOf c 0 l h w ∷ oneOf c 1 l h w ∷ oneOf c 2 l h w ∷ []

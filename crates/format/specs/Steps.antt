@@ -1,3 +1,2 @@
 -- The contracts of the functions inside this crate.
 pub mod ValueLines
-pub mod Printing

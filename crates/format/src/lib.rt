@@ -1,4 +1,4 @@
-// The text format (document 01: sheets): reading patterns and texts from bytes, and writing patterns.
+// The text format (document 01: sheets): reading patterns and texts from bytes.
 mod bytes;
 mod fields;
 mod input;
@@ -7,11 +7,9 @@ mod names;
 mod numbers;
 mod patterns;
 mod reader;
-mod sizes;
 mod texts;
 mod values;
 mod words;
-mod writing;
 
 pub use input::InputRead;
 pub use input::read_input;
@@ -25,11 +23,6 @@ pub use reader::past_line;
 pub use reader::resume;
 pub use texts::TextRead;
 pub use texts::read_text;
-pub use writing::PatternWritten;
-pub use writing::write_pattern;
 
 // The most bytes of a file.
 pub const FILE: usize = 60000;
-
-// The most bytes of a pattern's file as it is written.
-pub const PATTERN_FILE: usize = 916;

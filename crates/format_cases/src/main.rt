@@ -1,11 +1,11 @@
 // Reads files with the compiled library and prints, for each, what it answers: how many slots or words, or `refused` with number and place.
 // Then it writes patterns that were read, and prints what was written.
 use basics::smaller;
-use format::PatternWritten;
 use format::TextRead;
 use libc::STDOUT_FILENO;
 use pattern::Refusal;
 use pattern::Verdict;
+use printing::PatternWritten;
 
 // Prints a line with a number.
 fn print_number(n: usize) {
@@ -94,7 +94,7 @@ fn long_cases() {
 fn write_in(bytes: &[u8], out: &mut [u8]) {
     let read = format::read_pattern(bytes);
     let pattern = read.pattern;
-    let written = format::write_pattern(pattern, out);
+    let written = printing::write_pattern(pattern, out);
     match written {
         PatternWritten::Bytes(n) => {
             io::write_all(STDOUT_FILENO, first(out, n));
@@ -114,11 +114,11 @@ fn write_case(bytes: &[u8], room: usize) {
 fn write_cases() {
     write_case(
         b"most least\n9 3\nwords high low\n8,65535,7 0 0\n!15,12,15 63 10\n! 1 0\n",
-        format::PATTERN_FILE,
+        printing::PATTERN_FILE,
     );
     write_case(b"least most\n1 20000\nlow high words\n0 0 7\n", 40);
     write_case(b"least most\n1 20000\nlow high words\n0 0 7\n", 39);
-    write_case(b"", format::PATTERN_FILE);
+    write_case(b"", printing::PATTERN_FILE);
     pattern_case(b"least most\n1 20000\nlow high words\n0 0 1,1,1,1,1,1,1,1\n");
     pattern_case(b"least most\n1 20000\nlow high words\n0 0 1,1,1,1,1,1,1,1,1\n");
 }

@@ -1,12 +1,11 @@
--- Document 01's examples of the rows 10 to 13, fields of words with `!` and with repeats, files that are written, and the order of the tests
--- where several rows apply. They compute. Assumes nothing.
+-- Document 01's examples of the rows 10 to 13, fields of words with `!` and with repeats, and the order of the tests where
+-- several rows apply. They compute. Assumes nothing.
 use Prim.Native.Nat.{ℕ, _≤_, _<_}
 use mathlib.Core.List.{List, [], _∷_, _++_, map}
 use mathlib.Core.Bool.{true, false}
 use mathlib.Core.Path.{_≡_, refl}
 use lib.ListN.{length, replicate}
 use borrow.Author.Tests.{le-ltb, lt-ltb}
-use Rattle.pattern.specs.declared.Pattern.{Pattern}
 use Rattle.pattern.specs.Patterns.{member}
 use Rattle.pattern.specs.Words.{rises, canonical, sorted, inserted}
 use Rattle.pattern.specs.Tests.{limitsVerdict, patternVerdict, slotVerdict, slotsVerdict, spanVerdict}
@@ -20,8 +19,7 @@ use Rattle.format.specs.Texts.{textAnswer, textContents, textRead, textW
 use Rattle.format.specs.Patterns.{SlotLine, patternContents, patternAnswer, patternRead, refusedPattern, shownPattern, slotValues}
 use Rattle.format.specs.Input.{inputRead, refusedInput}
 use Rattle.basics.specs.Digits.{digitsIn}
-use Rattle.format.specs.Shown.{closed, digits, joined, slotText}
-use Rattle.format.specs.Printed.{patternText, mostPrinted}
+use Rattle.format.specs.Shown.{closed, digits, joined}
 use Rattle.format.specs.declared.texts.TextRead.the-variants.{Words}
 use Rattle.format.specs.declared.texts.TextRead.the-variants.{Refused as NoText}
 
@@ -159,25 +157,6 @@ repeats-read : (patternRead (file (listing (joined (digits 15 ∷ digits 12 ∷ 
     × (patternRead (file (listing (eightWords ++ 44 ∷ digits 1) ∷ [])) ≡ refusedPattern (WordCount 1))
 unfolding eightWords patternRead patternContents lines ended parts column same decimal more value allNumbers slotValues wordParts scan closed joined digits digitsIn patternVerdict limitsVerdict slotsVerdict slotVerdict spanVerdict rises canonical sorted inserted member
 repeats-read = (refl, refl, refl)
-
--- ---- what is written
-
--- the pattern of `7` and `!15,12` with a gap of 0 to 1 before it, its words in order
-slots-written : patternText (shownPattern 1 20000 (record { low = 0; high = 0; excluding = false; words = 7 ∷ [] } ∷ record { low = 0; high = 1; excluding = true; words = 15 ∷ 12 ∷ [] } ∷ []))
-    ≡ file (slot 0 0 7 ∷ line (digits 0 ∷ digits 1 ∷ (33 ∷ joined (digits 12 ∷ digits 15 ∷ []) 44) ∷ []) ∷ [])
-unfolding patternText slotText closed joined digits digitsIn canonical sorted inserted
-slots-written = refl
-
--- sixteen excluding slots of eight words of five digits, with wide gaps and span limits: its file has as many bytes as any
-largestPattern : Pattern
-largestPattern = shownPattern 10000 20000 (record { low = 0; high = 0; excluding = true; words = long } ∷ replicate 15 (record { low = 10; high = 63; excluding = true; words = long }))
-  where
-    long : List ℕ
-    long = 65528 ∷ 65529 ∷ 65530 ∷ 65531 ∷ 65532 ∷ 65533 ∷ 65534 ∷ 65535 ∷ []
-
-largest-written : (patternVerdict largestPattern ≡ Accepted) × (length (patternText largestPattern) ≡ mostPrinted)
-unfolding largestPattern patternText slotText closed joined digits digitsIn patternVerdict limitsVerdict slotsVerdict slotVerdict spanVerdict rises canonical sorted inserted member
-largest-written = (refl, refl)
 
 -- ---- the order of the tests
 

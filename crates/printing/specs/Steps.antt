@@ -1,0 +1,2 @@
+-- The contracts of the functions inside this crate.
+pub mod Printing
