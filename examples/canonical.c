@@ -8,7 +8,7 @@
 
 #include <stdio.h>
 
-/* Files are refused from here on; one byte more is read so that the library sees it. */
+/* The most bytes of a file; one byte more is read so that the library sees a longer one. */
 enum { LONGEST = 60000 };
 
 int main(void)

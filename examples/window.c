@@ -10,7 +10,7 @@
 #include <stdio.h>
 #include <stdlib.h>
 
-/* Files are refused from here on; one byte more is read so that the count sees it. */
+/* The most bytes of a file; one byte more is read so that the count sees a longer one. */
 enum { LONGEST = 60000, REFUSED = 100000 };
 
 /* Reads at most LONGEST + 1 bytes of a file: how many. */

@@ -4,10 +4,9 @@ use native.Mathlib.Nat.{add-mul, mul-le-mul, mul-le-mul-right}
 use native.Mathlib.Numerals.{add-one}
 use native.Mathlib.Omega.{arith}
 use mathlib.Core.Path.{_≡_, refl, sym, ap, _∙_}
-use mathlib.Core.List.{List, [], _∷_, _++_, map, append-assoc}
+use mathlib.Core.List.{List, [], _∷_, _++_, map, map-append, append-assoc}
 use lib.ListN.{length, getD, take, set, length-map, length-append, length-set}
 use lib.Seq.{paste, take-suc-set, take-set-le, take-take}
-use Rattle.basics.specs.Laws.Collections.{map-append}
 use Rattle.counting.specs.Steps.Tables.{NextRows}
 use Rattle.counting.specs.Steps.Walks.{run, put, Walk, Walked}
 use Rattle.counting.specs.Laws.Runs.{run-none, run-skip, run-more, run-part, put-append}

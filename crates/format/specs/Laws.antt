@@ -1,7 +1,6 @@
 -- What follows from the definitions: above all that a file is read as contents exactly if it shows them.
 pub mod Numbers
 pub mod Lines
-pub mod Writing
 pub mod TextShown
 pub mod Fields
 pub mod Words

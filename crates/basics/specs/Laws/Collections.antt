@@ -166,9 +166,3 @@ module _ {A B : Type 0} (h : A → B) where
   map-at [] d e k l = absurd (omega arith)
   map-at (x ∷ xs) d e zero l = refl
   map-at (x ∷ xs) d e (suc k) l = map-at xs d e k (omega arith)
-
--- ---- a map over two lists, one after the other
-
-pub map-append : {A B : Type 0} (f : A → B) (xs ys : List A) → map f (xs ++ ys) ≡ map f xs ++ map f ys
-map-append f [] ys = refl
-map-append f (x ∷ xs) ys = ap (λ l. f x ∷ l) (map-append f xs ys)

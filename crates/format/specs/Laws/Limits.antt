@@ -67,7 +67,7 @@ limits-first least most ls = verdict-held (shown-holds least most ls)
 
 -- ---- no file is refused with 16
 
--- contents that are refused for their layout are 10 or 11
+-- contents that are refused are refused with a number up to 11 (for their layout: 10 or 11)
 abbrev Layered : PatternContents → Type 0
 Layered c = (why : Refusal) → c ≡ refused why → numberOf why ≤ 11
 

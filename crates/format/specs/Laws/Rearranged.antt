@@ -1,4 +1,4 @@
--- Files that differ only in the order and repetition of a slot's words are read as the same pattern.
+-- Files that differ only in the order and repetition of a slot's words, within the limits of eight words and 60,000 bytes, are answered alike.
 use Prim.Native.Nat.{ℕ, suc, _≤_}
 use mathlib.Core.Path.{_≡_, refl, sym, _∙_, ap}
 use mathlib.Core.List.{List, _∷_, map}
@@ -28,7 +28,8 @@ alike-count : {rs qs : List SlotLine} → AlikeLines rs qs → length rs ≡ len
 alike-count no-line = refl
 alike-count (also-line a e) = ap suc (alike-count e)
 
--- two files that differ only in the order and repetition of a slot's words, within the limit of eight, are read as the same pattern
+-- two files of at most 60,000 bytes that differ only in the order and repetition of a slot's words, within the limit of eight, are answered
+-- alike: with the same pattern, or the same refusal
 pub alike-read : {s t : List ℕ} {least most : ℕ} {rs qs : List SlotLine} → PatternShows s least most rs → PatternShows t least most qs → AlikeLines rs qs
     → length s ≤ 60000 → length t ≤ 60000 → patternRead s ≡ patternRead t
 unfolding patternRead

@@ -15,7 +15,7 @@ use Rattle.pattern.specs.declared.Pattern.{Pattern}
 use Rattle.pattern.specs.declared.refusal.Refusal.the-variants.{SlotCount}
 use Rattle.pattern.specs.declared.refusal.Verdict.{Verdict}
 use Rattle.pattern.specs.declared.refusal.Verdict.the-variants.{Accepted, Refused}
-use Rattle.pattern.specs.Patterns.{stated, noSlot, slotAt, slotOf, withSlot, emptyPattern}
+use Rattle.pattern.specs.Patterns.{stated, noSlot, slotAt, slotOf, withSlot, withSpan, emptyPattern}
 use Rattle.pattern.specs.Words.{Rising, canonical}
 use Rattle.pattern.specs.Tests.{slotVerdict, orderVerdict, slotsVerdict}
 use Rattle.pattern.specs.Adding.{added, extended}
@@ -29,6 +29,10 @@ pub record InOrder (f : Pattern) : Type 0 where
 
 pub new-in-order : InOrder emptyPattern
 new-in-order = record { sixteen = refl; rising = λ j h. absurd (omega arith) }
+
+-- other span limits leave it so
+pub span-in-order : {f : Pattern} → InOrder f → (least most : ℕ) → InOrder (withSpan f least most)
+span-in-order o least most = record { sixteen = o .sixteen; rising = o .rising }
 
 -- such a pattern passes 16
 pub in-order-passes : {f : Pattern} → InOrder f → slotsVerdict orderVerdict f 0 (f .count) ≡ Accepted

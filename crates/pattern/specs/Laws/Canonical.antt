@@ -1,4 +1,5 @@
--- The slot that a pattern holds: it says what the slot that was stated says, gets the same verdict of the tests 2, 3 and 4, and passes 16.
+-- The slot that a pattern holds: it says what the slot that was stated says, gets the same verdict of the tests 2, 3 and 4, and within the
+-- limit of eight words passes 16.
 use Prim.Native.Nat.{ℕ, _-_, _≤_, _<_}
 use native.Mathlib.Omega.{arith}
 use native.Mathlib.Decide.{decLt}

@@ -22,7 +22,7 @@ use Rattle.pattern.specs.Laws.Canonical.{canonical-verdict, canonical-ri
 
 -- ---- a pattern that holds the slots of another
 
--- the slots of g are those of f as `canonical` puts them; of the latter's words there are eight
+-- the slots of g, up to the sixteenth, are those of f as `canonical` puts them, and each of f's has eight entries for words
 pub record Holds (g f : Pattern) : Type 0 where
   pub count : g .count ≡ f .count
   pub least : g .least ≡ f .least

@@ -3,7 +3,7 @@ use mathlib.Core.List.{[], _∷_}
 use lib.ListN.{length}
 use Rattle.report.specs.Lines.{values, countNames, tableNames, entryLines}
 use Rattle.basics.specs.Laws.Writing.{writes-of}
-use Rattle.format.specs.Laws.Writing.{writes-line, writes-lines}
+use Rattle.report.proofs.Writers.{writes-line, writes-lines}
 use borrow.Author.Needs.{needs}
 use Rattle.report.proofs.lines.put_lists.Statement.{statement}
 use Rattle.report.proofs.lines.put_lists.Tie as tie

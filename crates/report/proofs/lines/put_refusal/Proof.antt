@@ -2,7 +2,7 @@
 use mathlib.Core.List.{[], _∷_}
 use Rattle.report.specs.Lines.{values, refusalNames}
 use Rattle.basics.specs.Laws.Writing.{writes-of}
-use Rattle.format.specs.Laws.Writing.{writes-line}
+use Rattle.report.proofs.Writers.{writes-line}
 use borrow.Author.Needs.{needs}
 use Rattle.report.proofs.lines.put_refusal.Statement.{statement}
 use Rattle.report.proofs.lines.put_refusal.Tie as tie
