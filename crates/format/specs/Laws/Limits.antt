@@ -1,5 +1,5 @@
 -- The limits of a pattern file are tested on its words as they stand, before repeats are dropped, and 16 never applies.
-use Prim.Native.Nat.{ℕ, zero, suc, _+_, _-_, _≤_, _<_}
+use Prim.Native.Nat.{ℕ, _+_, _-_, _≤_, _<_}
 use native.Mathlib.Omega.{arith}
 use mathlib.Core.Path.{_≡_, refl, sym, _∙_, ap}
 use mathlib.Core.Bool.{Bool, true, false}
@@ -21,6 +21,7 @@ use Rattle.pattern.specs.Laws.Canonical.{padded-eight}
 use Rattle.pattern.specs.Laws.Accepting.{refused-fine}
 use Rattle.pattern.specs.Laws.Limits.{Holds, limits-number, verdict-held}
 use Rattle.basics.specs.Choice.{pick}
+use Rattle.basics.specs.Laws.Collections.{map-at}
 use Rattle.format.specs.Bytes.{ended, field, fields, lines, value}
 use Rattle.format.specs.Layouts.{scan}
 use Rattle.format.specs.Names.{column, columnsOf, leastName, mostName, slotNames, spanNames}
@@ -31,17 +32,12 @@ use Rattle.format.specs.declared.names.Columns.{Columns}
 
 -- ---- one of the first sixteen slots
 
-mapped-at : {A B : Type 0} (f : A → B) (l : List A) (j : ℕ) (d : A) (e : B) → j < length l → getD (map f l) j e ≡ f (getD l j d)
-mapped-at f [] j d e h = absurd (omega arith)
-mapped-at f (x ∷ l) zero d e h = refl
-mapped-at f (x ∷ l) (suc j) d e h = mapped-at f l j d e (omega arith)
-
 pub slot-of-line : (make : SlotLine → Slot) (ls : List SlotLine) (d : SlotLine) (j : ℕ) → j < length ls → j < 16 → getD (firstSlots (map make ls)) j noSlot ≡ make (getD ls j d)
 slot-of-line make ls d j h few =
     let made = map make ls in
     let long : length made ≡ length ls = length-map ls make in
     let inside : j < length (take 16 made) = simp length-take (omega arith) in
-    List·getD-append (take 16 made) (replicate (16 - length made) emptySlot) noSlot j inside ∙ getD-take 16 made j noSlot few ∙ mapped-at make ls j d noSlot h
+    List·getD-append (take 16 made) (replicate (16 - length made) emptySlot) noSlot j inside ∙ getD-take 16 made j noSlot few ∙ map-at make ls d noSlot j h
 
 -- ---- the tests
 

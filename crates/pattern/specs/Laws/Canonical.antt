@@ -3,12 +3,12 @@
 use Prim.Native.Nat.{ℕ, _-_, _≤_, _<_}
 use native.Mathlib.Omega.{arith}
 use native.Mathlib.Decide.{decLt}
-use mathlib.Core.Path.{_≡_, refl, sym, _∙_, ap}
+use mathlib.Core.Path.{_≡_, sym, _∙_, ap}
 use mathlib.Core.Logic.{_↔_}
 use mathlib.Core.Bool.{Bool, true, false}
-use mathlib.Core.List.{List, [], _∷_, _++_, List·Memᴰ}
+use mathlib.Core.List.{List, _++_, List·Memᴰ}
 use lib.ListN.{length, take, replicate, length-append, length-replicate, length-take}
-use lib.Seq.{take-all}
+use lib.Seq.{take-all, take-append-seam}
 use lib.Dec.{ltb}
 use borrow.Author.Tests.{lt-ltb, le-ltb}
 use Rattle.pattern.specs.declared.slot.Slot.{Slot}
@@ -31,11 +31,6 @@ pub canonical-many : (s : Slot) → 8 < s .count → canonical s ≡ s
 unfolding canonical
 canonical-many s h = rw (lt-ltb 8 (s .count) h)
 
--- a list and what stands behind it, up to the list's length
-take-front : (ws zs : List ℕ) → take (length ws) (ws ++ zs) ≡ ws
-take-front [] zs = refl
-take-front (w ∷ ws) zs = ap (λ (l : List ℕ). w ∷ l) (take-front ws zs)
-
 -- eight entries
 pub padded-eight : (ws : List ℕ) → length (padded ws) ≡ 8
 padded-eight ws = simp (length-append, length-take, length-replicate) (omega arith)
@@ -43,7 +38,7 @@ padded-eight ws = simp (length-append, length-take, length-replicate) (omega ari
 -- a slot made of at most eight words states these
 pub slot-stated : (low high : ℕ) (excluding : Bool) (ws : List ℕ) → length ws ≤ 8 → stated (slotOf low high excluding ws) ≡ ws
 slot-stated low high excluding ws h =
-    ap (λ (l : List ℕ). take (length ws) (l ++ replicate (8 - length ws) 0)) (take-all 8 ws h) ∙ take-front ws (replicate (8 - length ws) 0)
+    ap (λ (l : List ℕ). take (length ws) (l ++ replicate (8 - length ws) 0)) (take-all 8 ws h) ∙ take-append-seam ws (replicate (8 - length ws) 0)
 
 stated-length : (s : Slot) → length (stated s) ≤ s .count
 stated-length s = simp length-take (omega arith)
