@@ -3,7 +3,7 @@
 use std::cell::OnceCell;
 
 use super::limits::{test_pattern, test_text};
-use super::occurrences::is_occurrence;
+use super::occurrences::{failed, is_occurrence};
 use super::refusal::{answer, refuse, Refusal};
 use super::rows::{leftmost, rightmost, Row, Searcher};
 use super::{cursors, Enumerated, Windowed};
@@ -82,6 +82,12 @@ impl<'a, S: Searcher> Brute<'a, S> {
     /// Whether a row is an occurrence, 1 or 0.
     pub fn is_occurrence(&self, row: &[u16]) -> Answer {
         answer(self.occurs(row).map(u64::from))
+    }
+
+    /// Which of the conditions, in their order, a row fails, or why that is not said.
+    pub fn failed(&self, row: &[u16]) -> Result<[bool; 4], Refusal> {
+        self.searcher_for(row)?;
+        Ok(failed(self.pattern, self.text, row))
     }
 
     /// How long the row's excerpt is, and its word at an index from 0.

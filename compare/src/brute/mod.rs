@@ -15,6 +15,8 @@ mod rows;
 #[cfg(test)]
 mod self_tests;
 #[cfg(test)]
+mod self_tests_conditions;
+#[cfg(test)]
 mod self_tests_excluding;
 #[cfg(test)]
 mod self_tests_written;
@@ -29,7 +31,7 @@ pub use files::{both_from_files, made_from_file, words_from_file};
 pub use largest::{largest_sets, largest_size, overlap};
 pub use limits::{pattern_of, with_slot};
 pub use lines::line;
-pub use occurrences::is_occurrence;
+pub use occurrences::{failed, is_occurrence, Condition};
 pub use report::{count, report};
 pub use rows::{sorted_by_slot, Row, Searcher};
 pub use windowed::Windowed;

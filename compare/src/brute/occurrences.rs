@@ -1,4 +1,4 @@
-//! Whether a row is an occurrence, and all occurrences by trying place after place.
+//! Whether a row is an occurrence, by the conditions of one, and all occurrences by trying place after place.
 
 use super::rows::Row;
 use crate::layout::{Pattern, Slot};
@@ -23,27 +23,70 @@ pub fn stands(slot: &Slot, text: &[u16], place: u16) -> bool {
     place >= 1 && place as usize <= text.len() && takes(slot, text[place as usize - 1])
 }
 
-/// Whether a row of as many places as slots is an occurrence, for a pattern within the limits.
-pub fn is_occurrence(pattern: &Pattern, text: &[u16], row: &[u16]) -> bool {
-    let slots = slots(pattern);
-    let words_fit = (0..row.len()).all(|at| stands(&slots[at], text, row[at]));
-    let gaps_fit = (1..row.len()).all(|at| {
-        let gap = i64::from(row[at]) - i64::from(row[at - 1]) - 1;
-        i64::from(slots[at].low) <= gap && gap <= i64::from(slots[at].high)
-    });
-    words_fit && gaps_fit && span_fits(pattern, row) && keeps_to_one_sentence(text, row)
+/// A condition on rows of as many places as slots of a pattern within the limits; any such row keeps it or fails it.
+#[derive(Clone, Copy, Debug, PartialEq, Eq)]
+pub enum Condition {
+    Word,
+    Gap,
+    Span,
+    Sentence,
 }
 
-/// Whether the row's span lies within the pattern's limits.
-fn span_fits(pattern: &Pattern, row: &[u16]) -> bool {
+impl Condition {
+    /// All conditions, each at its own index: those of Definition 3 in its order, and the sentence rule last.
+    pub const ALL: [Condition; 4] = [Condition::Word, Condition::Gap, Condition::Span, Condition::Sentence];
+
+    /// The condition's name.
+    pub fn name(self) -> &'static str {
+        ["word", "gap", "span", "sentence"][self as usize]
+    }
+
+    /// Whether the row keeps the condition.
+    fn holds(self, pattern: &Pattern, text: &[u16], row: &[u16]) -> bool {
+        match self {
+            Condition::Word => word(pattern, text, row),
+            Condition::Gap => gap(pattern, row),
+            Condition::Span => span(pattern, row),
+            Condition::Sentence => sentence(text, row),
+        }
+    }
+}
+
+/// Whether a row of as many places as slots is an occurrence, for a pattern within the limits: it keeps all conditions.
+pub fn is_occurrence(pattern: &Pattern, text: &[u16], row: &[u16]) -> bool {
+    Condition::ALL.iter().all(|condition| condition.holds(pattern, text, row))
+}
+
+/// Which of the conditions, in their order, a row of as many places as slots fails, for a pattern within the limits.
+pub fn failed(pattern: &Pattern, text: &[u16], row: &[u16]) -> [bool; 4] {
+    Condition::ALL.map(|condition| !condition.holds(pattern, text, row))
+}
+
+/// Whether each place is in the text and its word is one that the slot takes.
+fn word(pattern: &Pattern, text: &[u16], row: &[u16]) -> bool {
+    let slots = slots(pattern);
+    (0..row.len()).all(|at| stands(&slots[at], text, row[at]))
+}
+
+/// Whether the number of words between each place and the next, below 0 if it does not rise, lies in that slot's gap.
+fn gap(pattern: &Pattern, row: &[u16]) -> bool {
+    let slots = slots(pattern);
+    (1..row.len()).all(|at| {
+        let gap = i64::from(row[at]) - i64::from(row[at - 1]) - 1;
+        i64::from(slots[at].low) <= gap && gap <= i64::from(slots[at].high)
+    })
+}
+
+/// Whether the number of words from the first place to the last, both counted, lies within the pattern's limits.
+fn span(pattern: &Pattern, row: &[u16]) -> bool {
     let span = i64::from(row[row.len() - 1]) - i64::from(row[0]) + 1;
     i64::from(pattern.least) <= span && span <= i64::from(pattern.most)
 }
 
-/// Whether no word of the text strictly between the row's first and last place is a sentence end, for any row.
-pub fn keeps_to_one_sentence(text: &[u16], row: &[u16]) -> bool {
+/// Whether none of the words that the text has strictly between the first place and the last is a sentence end.
+pub fn sentence(text: &[u16], row: &[u16]) -> bool {
     let (first, last) = (row[0] as usize, row[row.len() - 1] as usize);
-    (first + 1..last).all(|place| text.get(place - 1) != Some(&0))
+    (first + 1..last.min(text.len() + 1)).all(|place| text[place - 1] != 0)
 }
 
 /// All occurrences, first place first, ties by the next slot, for a pattern and a text within the limits.
@@ -60,7 +103,7 @@ pub fn occurrences(pattern: &Pattern, text: &[u16]) -> Vec<Row> {
 /// Adds to `found` every occurrence that begins with these places.
 fn complete(pattern: &Pattern, text: &[u16], begun: &mut Row, found: &mut Vec<Row>) {
     let Some(slot) = slots(pattern).get(begun.len()) else {
-        if span_fits(pattern, begun) {
+        if span(pattern, begun) {
             found.push(begun.clone());
         }
         return;

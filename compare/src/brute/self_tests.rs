@@ -1,6 +1,6 @@
 //! The brute force against the scope's examples and the worked texts, and its methods against each other.
 
-use super::occurrences::{keeps_to_one_sentence, occurrences};
+use super::occurrences::{occurrences, sentence};
 use super::*;
 use crate::cases::examples::EXAMPLES;
 use crate::cases::files::{text_file, usual_pattern_file};
@@ -24,7 +24,7 @@ fn assert_rows(named: Option<Rows>, rows: &[Row]) {
     }
 }
 
-/// The nine texts, those with sentence ends and those for excluding slots, by both methods.
+/// The nine texts, those with sentence ends, those for excluding slots and the one for the conditions, by both methods.
 #[test]
 fn stated_rows() {
     for case in worked_texts() {
@@ -60,7 +60,7 @@ fn stated_reports() {
 /// A sentence end counts strictly between a row's first and last place, and there alone; the row is any row.
 #[test]
 fn sentence_ends_between() {
-    let across = |text: &[u16], row: &[u16]| !keeps_to_one_sentence(text, row);
+    let across = |text: &[u16], row: &[u16]| !sentence(text, row);
     let text = [0, 1, 0, 1, 1, 1, 0];
     let one_sentence: [&[u16]; 9] = [&[1], &[3], &[1, 2], &[2, 3], &[1, 3], &[3, 7], &[4, 5, 6], &[7, 1], &[9, 99]];
     let several: [&[u16]; 7] = [&[2, 4], &[1, 4], &[2, 5], &[2, 7], &[6, 8], &[0, 2], &[4, 1, 65_535]];

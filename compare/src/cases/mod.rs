@@ -1,11 +1,13 @@
 //! The cases: tables, and generators of patterns, texts and files.
 
+pub mod conditions;
 pub mod examples;
 pub mod excluding;
 pub mod files;
 pub mod inputs;
 pub mod lines;
 pub mod orders;
+pub mod placed;
 pub mod random;
 pub mod sentences;
 pub mod small;

@@ -1,5 +1,6 @@
 //! The scope's nine texts, with the rows it names for them, and texts with sentence ends, with rows found by hand.
 
+use super::conditions::CONDITION_TEXT;
 use super::excluding::EXCLUDING_TEXTS;
 use super::Words::Only;
 use super::{Written, ANY_SPAN};
@@ -7,8 +8,8 @@ use super::{Written, ANY_SPAN};
 /// A list of rows.
 pub type Rows = &'static [&'static [u16]];
 
-/// A text and a pattern, with what the scope says of them or Jobs 1 and 2 of document 02 mean for them; `None` where
-/// the scope does not say.
+/// A text and a pattern, with what the scope says of them or Jobs 1, 2 and 4 of document 02 mean for them; `None`
+/// where the scope does not say.
 pub struct Worked {
     pub text: &'static [u16],
     pub slots: &'static [Written<'static>],
@@ -22,7 +23,7 @@ pub struct Worked {
 
 /// All texts of the tables.
 pub fn worked_texts() -> impl Iterator<Item = &'static Worked> {
-    TEXTS.iter().chain(&CUT_TEXTS).chain(&EXCLUDING_TEXTS)
+    TEXTS.iter().chain(&CUT_TEXTS).chain(&EXCLUDING_TEXTS).chain([&CONDITION_TEXT])
 }
 
 /// The letters' words: their places in the alphabet.

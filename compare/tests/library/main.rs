@@ -4,10 +4,12 @@ mod alone;
 mod arranged;
 mod both;
 mod call;
+mod conditions;
 mod damage;
 mod desk;
 mod excluding;
 mod exhaustive;
+mod failures;
 mod file_calls;
 mod files;
 mod lent;
@@ -32,11 +34,12 @@ use run::Run;
 type Group = (&'static str, fn(&mut Run));
 
 /// All groups.
-const GROUPS: [Group; 15] = [
+const GROUPS: [Group; 16] = [
     ("worked", worked::run),
     ("exhaustive", exhaustive::run),
     ("sentences", sentences::run),
     ("excluding", excluding::run),
+    ("conditions", conditions::run),
     ("random", random::run),
     ("limits", limits::run),
     ("order", order::run),
@@ -56,7 +59,11 @@ const FEWEST_INPUTS: u64 = 100_000;
 /// The fewest inputs that each call is compared on.
 const FEWEST_OF_EACH: u64 = 2_000;
 
-/// Runs all groups, prints the counts, and fails if a group differed, a refusal never came up or a call came up rarely.
+/// The fewest rows that fail each condition alone, and the fewest that it is then lifted for.
+const FEWEST_ALONE: u64 = 1_000;
+
+/// Runs all groups, prints the counts, and fails if a group differed, a refusal or a set of failed conditions never came
+/// up, or a call or a condition that fails alone came up rarely.
 fn main() -> ExitCode {
     let mut run = Run::new();
     let mut failed = Vec::new();
@@ -75,12 +82,15 @@ fn main() -> ExitCode {
 /// Whether the run has compared what it must, without a difference.
 fn judge(run: &Run, failed: &[&str]) -> ExitCode {
     let (missing, rare) = (run.missing(), run.rare(FEWEST_OF_EACH));
+    let (unseen, seldom) = (run.failures.unseen(), run.failures.seldom(FEWEST_ALONE));
     let too_few = run.inputs() < FEWEST_INPUTS;
-    if failed.is_empty() && missing.is_empty() && rare.is_empty() && !too_few {
+    let all_seen = missing.is_empty() && rare.is_empty() && unseen.is_empty() && seldom.is_empty();
+    if failed.is_empty() && all_seen && !too_few {
         println!("library and brute force agree");
         return ExitCode::SUCCESS;
     }
     println!("FAILED: groups {failed:?}, refusals never seen {missing:?}, calls rarely seen {rare:?}");
+    println!("sets of failed conditions never seen {unseen:?}, conditions rarely failed alone or lifted {seldom:?}");
     println!("too few inputs: {too_few}");
     ExitCode::FAILURE
 }

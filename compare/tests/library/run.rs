@@ -3,6 +3,7 @@
 use std::fmt::Debug;
 
 use crate::call::Call;
+use crate::failures::Failures;
 
 /// The numbers that the library refuses with; each must come up in a run.
 const REFUSALS: [usize; 16] = [1, 2, 3, 4, 5, 6, 7, 8, 9, 10, 11, 12, 13, 14, 15, 16];
@@ -16,6 +17,7 @@ pub struct Run {
     inputs: u64,
     calls: [Compared; Call::ALL.len()],
     answers: [u64; NUMBERS],
+    pub failures: Failures,
 }
 
 /// How much of one call has been compared, and the number of its last input.
@@ -37,7 +39,7 @@ impl Run {
     /// A run that has compared nothing.
     pub fn new() -> Run {
         let calls = [Compared::default(); Call::ALL.len()];
-        Run { groups: Vec::new(), inputs: 0, calls, answers: [0; NUMBERS] }
+        Run { groups: Vec::new(), inputs: 0, calls, answers: [0; NUMBERS], failures: Failures::default() }
     }
 
     /// Begins a group of cases.
@@ -91,6 +93,7 @@ impl Run {
         for number in REFUSALS {
             println!("refused with {number:>2}: {:>8}", self.answers[number]);
         }
+        self.failures.print();
     }
 
     /// How many inputs all groups have compared.

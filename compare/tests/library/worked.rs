@@ -1,5 +1,5 @@
-//! The scope's nine texts, those with sentence ends, those for excluding slots, and the program's examples, as they are
-//! stated and as the brute force finds them.
+//! The scope's nine texts, those with sentence ends, those for excluding slots, the one whose rows fail one condition
+//! alone, and the program's examples, as they are stated and as the brute force finds them.
 
 use compare::brute::Brute;
 use compare::cases::examples::EXAMPLES;

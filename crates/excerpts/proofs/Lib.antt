@@ -1,2 +1,2 @@
 -- Laws that the proofs of several functions share.
-mod Testing
+mod Placewise

@@ -1,2 +1,2 @@
 -- The contracts of the functions inside this crate.
-pub mod Conditions
+pub mod Rows

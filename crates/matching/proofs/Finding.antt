@@ -68,7 +68,7 @@ module _ {g : Pattern} {u : View} {marks : List ℕ} {k : ℕ} (C : Counted g u 
         run = run-append (C .run) (step-row e);
         size = omega (arith, length-append (C .rows) (r ∷ []), C .size);
         below = omega (arith, C .below, E .past 0 (ok .some), getD-take m (a .places) 0 0 (ok .some));
-        inside = omega (arith, E .hit .inside 0 (ok .some), getD-take m (a .places) 0 0 (ok .some));
+        inside = omega (arith, E .hit .word 0 (ok .some) .inside, getD-take m (a .places) 0 0 (ok .some));
         spare = record { size = A .size e; rest = A .rest e };
         clear = λ x h l. E .hit .sentence x (omega (arith, getD-take m (a .places) 0 0 (ok .some))) (omega (arith, getD-take m (a .places) (m - 1) 0 (omega (arith, ok .some))));
       }
@@ -76,7 +76,7 @@ module _ {g : Pattern} {u : View} {marks : List ℕ} {k : ℕ} (C : Counted g u 
   pub counted-less : a .found ≡ true → 20001 - at (a .places) 0 < 20001 - at marks 0
   unfolding Before
   counted-less e = let E = A .some e in
-      omega (arith, ok .short, E .past 0 (ok .some), E .hit .inside 0 (ok .some), getD-take m (a .places) 0 0 (ok .some))
+      omega (arith, ok .short, E .past 0 (ok .some), E .hit .word 0 (ok .some) .inside, getD-take m (a .places) 0 0 (ok .some))
 
   pub counted-all : a .found ≡ false → C .rows ≡ leftmostIn g u
   unfolding Before

@@ -9,7 +9,7 @@ use lib.ListN.{length, set}
 use lib.Seq.{getD-take, getD-set-same}
 use Rattle.pattern.specs.declared.Pattern.{Pattern}
 use Rattle.matching.specs.declared.search.Answer.{Answer}
-use Rattle.matching.specs.Occurrence.{View, Unbroken, OccursIn, at}
+use Rattle.matching.specs.Occurrence.{View, Unbroken, SentenceIn, OccursIn, at}
 use Rattle.matching.specs.Rows.{NotAfter}
 use Rattle.matching.specs.Steps.Bounds.{Larger, LastEnd}
 use Rattle.matching.specs.Steps.Settling.{Ready, loose, Raised, Settled}
@@ -19,10 +19,10 @@ use Rattle.matching.proofs.Settling.{unsettled}
 module _ {f : Pattern} {v : View} where
   -- an occurrence is one as if no sentence ended, and such a one is an occurrence where it keeps to one sentence
   loosened : {q : List ℕ} → OccursIn f v q → OccursIn f (loose v) q
-  loosened o = record { size = o .size; inside = o .inside; fit = o .fit; gap = o .gap; span = o .span; sentence = λ x a b. refl }
+  loosened o = record { size = o .size; word = λ j h. record { inside = o .word j h .inside; fit = o .word j h .fit }; gap = o .gap; span = o .span; sentence = λ x a b. refl }
 
-  tightened : {q : List ℕ} → OccursIn f (loose v) q → Unbroken (v .ends) (at q 0) (at q (f .count - 1)) → OccursIn f v q
-  tightened o u = record { size = o .size; inside = o .inside; fit = o .fit; gap = o .gap; span = o .span; sentence = u }
+  tightened : {q : List ℕ} → OccursIn f (loose v) q → SentenceIn f v q → OccursIn f v q
+  tightened o u = record { size = o .size; word = λ j h. record { inside = o .word j h .inside; fit = o .word j h .fit }; gap = o .gap; span = o .span; sentence = u }
 
 pub settled-found : {f : Pattern} {v : View} {p q : List ℕ} {b : Bool} → b ≡ true → Settled f v p (record { found = b; places = q }) → Settled f v p (record { found = true; places = q })
 settled-found e S = rw e at S
@@ -54,7 +54,7 @@ module _ {f : Pattern} {v : View} {p₀ p : List ℕ} {from : ℕ} (K : Keeping 
 pub last-inside : {f : Pattern} {v : View} {p q : List ℕ} → Settled f v p (record { found = true; places = q }) → Ready f (v .places) → at q (f .count - 1) ≤ v .places
 last-inside {f} {q = q} S ok =
     let h : f .count - 1 < f .count = omega (arith, ok .some) in
-    omega (arith, getD-take (f .count) q (f .count - 1) 0 h, S .occurs refl .inside (f .count - 1) h .1)
+    omega (arith, getD-take (f .count) q (f .count - 1) 0 h, S .occurs refl .word (f .count - 1) h .inside .1)
 
 -- a look for a sentence end: q is the earliest as if no sentence ended, `to` its last place, and `end` the last sentence end inside it, or 0
 pub record Looked (f : Pattern) (v : View) (p₀ p : List ℕ) (from : ℕ) (q : List ℕ) (to end : ℕ) : Type 0 where

@@ -101,10 +101,10 @@ module _ {f : Pattern} {v : View} where
 
   module _ {p₀ p : List ℕ} {j r : ℕ} (S : Raised f v p₀ p) (W : Visited f v p j r) (l : j < f .count) where
     pub beyond : (q : List ℕ) → OccursIn f v q → NotAfter (f .count) p₀ q → r ≤ at q j
-    beyond q O B = W .least (at q j) (allowed O p j l (S .sound q O B)) (O .fit j l)
+    beyond q O B = W .least (at q j) (allowed O p j l (S .sound q O B)) (O .word j l .fit)
 
     pub none : v .places < r → Never f v p₀
-    none h q O B = omega (arith, beyond q O B, O .inside j l)
+    none h q O B = omega (arith, beyond q O B, O .word j l .inside)
 
     pub raised : f .count ≤ 16 → Raised f v p₀ (set p j r)
     raised few = raised-at S l few (W .bound .own) beyond

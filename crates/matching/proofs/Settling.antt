@@ -69,8 +69,7 @@ occurs f v p endless some few pos still =
     let last : m - 1 < m = omega arith in
     record {
       size = length-take-le m p few;
-      inside = λ k h. omega (arith, e k h, pos k h, still k h .inside);
-      fit = λ k h. rw (e k h) (still k h .fit);
+      word = λ k h. record { inside = omega (arith, e k h, pos k h, still k h .inside); fit = rw (e k h) (still k h .fit) };
       gap = λ k h.
           let i : k + 1 - 1 ≡ k = omega arith in
           let z : k < m = omega arith in
@@ -120,7 +119,7 @@ module _ (f : Pattern) (v : View) {marks : List ℕ} {s : Answer} (S : Started (
   unfolding Before
   unanswered {a} d e =
       let no-such : a .found ≡ true → ⊥ = λ g. true≢false (sym g ∙ d) in
-      record { some = λ g. absurd (no-such g); size = λ g. absurd (no-such g); rest = λ g. absurd (no-such g); none = λ _ q O P. S .none e q P (λ k h. omega (arith, O .inside k h .1)) }
+      record { some = λ g. absurd (no-such g); size = λ g. absurd (no-such g); rest = λ g. absurd (no-such g); none = λ _ q O P. S .none e q P (λ k h. omega (arith, O .word k h .inside .1)) }
 
 -- ---- the row just past the marks
 

@@ -1,5 +1,6 @@
 -- What follows from the definitions.
 pub mod Tests
+pub mod Conditions
 pub mod Enumeration
 pub mod Sorting
 pub mod Rows
@@ -20,6 +21,7 @@ pub mod Lengths
 pub mod Texts
 pub mod SentenceTexts
 pub mod ExcludingTexts
+pub mod ConditionTexts
 pub mod Mirror
 pub mod Turning
 pub mod Ready

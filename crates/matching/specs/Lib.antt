@@ -14,6 +14,7 @@ pub mod Answers
 pub mod Texts
 pub mod SentenceTexts
 pub mod ExcludingTexts
+pub mod ConditionTexts
 pub mod Joining
 pub mod Steps
 pub mod Laws

@@ -43,15 +43,36 @@ at r j = getD r j 0
 abbrev pub Unbroken : (ℕ → Bool) → ℕ → ℕ → Type 0
 Unbroken ends p q = (x : ℕ) → p < x → x < q → ends x ≡ false
 
--- Definition 3, an occurrence (document 01: hit). The gap before slot j + 1 has low to high words, and all of the row spans least to most.
--- Beyond that definition the row keeps to one sentence (document 02, Job 1).
+-- ---- Definition 3, condition by condition
+
+-- the place is one that is seen, and slot j fits it
+pub record FitsIn (v : View) (j place : ℕ) : Type 0 where
+  pub inside : (1 ≤ place) × (place ≤ v .places)
+  pub fit : v .fits j place ≡ true
+
+-- word: each place is in the text, and its word is one that the slot takes
+abbrev pub WordIn : Pattern → View → List ℕ → Type 0
+WordIn f v r = (j : ℕ) → j < f .count → FitsIn v j (at r j)
+
+-- gap: before each slot j + 1, low to high words stand between its place and the one before
+abbrev pub Gap : Pattern → List ℕ → Type 0
+Gap f r = (j : ℕ) → j + 1 < f .count → (at r j + slotAt f (j + 1) .low + 1 ≤ at r (j + 1)) × (at r (j + 1) ≤ at r j + slotAt f (j + 1) .high + 1)
+
+-- span: from the first place to the last there are least to most words
+abbrev pub Span : Pattern → List ℕ → Type 0
+Span f r = (at r 0 + f .least ≤ at r (f .count - 1) + 1) × (at r (f .count - 1) + 1 ≤ at r 0 + f .most)
+
+-- sentence, beyond that definition (document 02, Job 1): none ends strictly between the first place and the last
+abbrev pub SentenceIn : Pattern → View → List ℕ → Type 0
+SentenceIn f v r = Unbroken (v .ends) (at r 0) (at r (f .count - 1))
+
+-- an occurrence (document 01: hit): a row of a place for each slot, of which all four hold
 pub record OccursIn (f : Pattern) (v : View) (r : List ℕ) : Type 0 where
   pub size : length r ≡ f .count
-  pub inside : (j : ℕ) → j < f .count → (1 ≤ at r j) × (at r j ≤ v .places)
-  pub fit : (j : ℕ) → j < f .count → v .fits j (at r j) ≡ true
-  pub gap : (j : ℕ) → j + 1 < f .count → (at r j + slotAt f (j + 1) .low + 1 ≤ at r (j + 1)) × (at r (j + 1) ≤ at r j + slotAt f (j + 1) .high + 1)
-  pub span : (at r 0 + f .least ≤ at r (f .count - 1) + 1) × (at r (f .count - 1) + 1 ≤ at r 0 + f .most)
-  pub sentence : Unbroken (v .ends) (at r 0) (at r (f .count - 1))
+  pub word : WordIn f v r
+  pub gap : Gap f r
+  pub span : Span f r
+  pub sentence : SentenceIn f v r
 
 -- an occurrence in a text
 abbrev pub Occurs : Pattern → List ℕ → List ℕ → Type 0

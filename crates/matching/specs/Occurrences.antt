@@ -25,17 +25,37 @@ each (suc n) p = p n && each n p
 unfoldable pub unbroken : (ℕ → Bool) → ℕ → ℕ → Bool
 unbroken ends p q = each (q - p - 1) (λ i. not (ends (p + i + 1)))
 
--- the row is an occurrence: size, inside, fit, gap, span and sentence as the record has them
+-- the place is one that is seen, and slot j fits it
+unfoldable pub fitsIn : View → ℕ → ℕ → Bool
+fitsIn v j place = within 1 place (v .places) && v .fits j place
+
+-- word: each place is in the text, and its word is one that the slot takes
+unfoldable pub wordIn : Pattern → View → List ℕ → Bool
+wordIn f v r = each (f .count) (λ j. fitsIn v j (at r j))
+
+-- gap: before each slot j + 1, low to high words stand between its place and the one before
+unfoldable pub gap : Pattern → List ℕ → Bool
+gap f r = each (f .count - 1) (λ j. within (at r j + slotAt f (j + 1) .low + 1) (at r (j + 1)) (at r j + slotAt f (j + 1) .high + 1))
+
+-- span: from the first place to the last there are least to most words
+unfoldable pub span : Pattern → List ℕ → Bool
+span f r = within (at r 0 + f .least) (at r (f .count - 1) + 1) (at r 0 + f .most)
+
+-- sentence: none ends strictly between the first place and the last
+unfoldable pub sentenceIn : Pattern → View → List ℕ → Bool
+sentenceIn f v r = unbroken (v .ends) (at r 0) (at r (f .count - 1))
+
+-- the row is an occurrence: it has a place for each slot, and all four hold
 unfoldable pub occursIn : Pattern → View → List ℕ → Bool
-occursIn f v r =
-    eqb (length r) (f .count)
-    && each (f .count) (λ j. within 1 (at r j) (v .places))
-    && each (f .count) (λ j. v .fits j (at r j))
-    && each (f .count - 1) (λ j. within (at r j + slotAt f (j + 1) .low + 1) (at r (j + 1)) (at r j + slotAt f (j + 1) .high + 1))
-    && within (at r 0 + f .least) (at r (f .count - 1) + 1) (at r 0 + f .most)
-    && unbroken (v .ends) (at r 0) (at r (f .count - 1))
+occursIn f v r = eqb (length r) (f .count) && wordIn f v r && gap f r && span f r && sentenceIn f v r
 
 -- in a text
+abbrev pub word : Pattern → List ℕ → List ℕ → Bool
+word f t r = wordIn f (plain f t) r
+
+abbrev pub sentence : Pattern → List ℕ → List ℕ → Bool
+sentence f t r = sentenceIn f (plain f t) r
+
 abbrev pub occurs : Pattern → List ℕ → List ℕ → Bool
 occurs f t r = occursIn f (plain f t) r
 

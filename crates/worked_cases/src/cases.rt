@@ -1,4 +1,5 @@
 // The tables' texts, patterns and rows, as the runs take them.
+use crate::tables::FAILING;
 use crate::tables::ROWS;
 use crate::tables::SIZES;
 use crate::tables::SLOTS;
@@ -64,14 +65,14 @@ fn built(line: [u16; 20], sizes: [u16; 3]) -> Pattern {
 
 // The words of text number k, counted from 0, with zeros after them.
 fn words_of(k: usize) -> [u16; 16]
-    requires { ⌜ k < 22 ⌝ }
+    requires { ⌜ k < 23 ⌝ }
 {
     WORDS[k]
 }
 
 // How many words text number k has.
 fn length_of(k: usize) -> usize
-    requires { ⌜ k < 22 ⌝ }
+    requires { ⌜ k < 23 ⌝ }
 {
     let sizes = SIZES[k];
     widen(sizes[0])
@@ -79,21 +80,21 @@ fn length_of(k: usize) -> usize
 
 // The pattern of text number k.
 fn pattern_of(k: usize) -> Pattern
-    requires { ⌜ k < 22 ⌝ }
+    requires { ⌜ k < 23 ⌝ }
 {
     built(SLOTS[k], SIZES[k])
 }
 
 // The row of text number k.
 fn row_of(k: usize) -> [u16; 4]
-    requires { ⌜ k < 22 ⌝ }
+    requires { ⌜ k < 23 ⌝ }
 {
     ROWS[k]
 }
 
 // The case of text number k.
 pub fn case_of(k: usize) -> Case
-    requires { ⌜ k < 22 ⌝ }
+    requires { ⌜ k < 23 ⌝ }
 {
     Case {
         words: words_of(k),
@@ -101,4 +102,11 @@ pub fn case_of(k: usize) -> Case
         pattern: pattern_of(k),
         row: row_of(k),
     }
+}
+
+// Row number i, counted from 0, of those that fail one condition alone.
+pub fn failing_row(i: usize) -> [u16; 4]
+    requires { ⌜ i < 4 ⌝ }
+{
+    FAILING[i]
 }

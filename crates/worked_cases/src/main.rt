@@ -1,10 +1,12 @@
-// Runs texts with sentence ends and texts for excluding slots through the library: of each the count, the tally, the front list, the back
-// list, all occurrences, and whether one row is an occurrence.
+// Runs texts with sentence ends, texts for excluding slots and one for the conditions of an occurrence through the library: of each the
+// count, the tally, the front list, the back list, all occurrences, and whether one row is an occurrence; of the last also the rows that
+// fail one condition alone.
 mod cases;
 mod show;
 mod tables;
 
 use cases::case_of;
+use cases::failing_row;
 use cases::first;
 use cases::part;
 use counting::Tallied;
@@ -98,7 +100,7 @@ fn show_row(pattern: Pattern, text: &[u16], row: &[u16]) {
 
 // Text number k, counted from 0.
 fn show_text(k: usize)
-    requires { ⌜ k < 22 ⌝ }
+    requires { ⌜ k < 23 ⌝ }
 {
     let case = case_of(k);
     let pattern = case.pattern;
@@ -116,9 +118,22 @@ fn show_text(k: usize)
     show_row(pattern, text, first(&row, pattern.count));
 }
 
+// The last text's rows that fail one condition alone.
+fn show_failing() {
+    let case = case_of(22);
+    let pattern = case.pattern;
+    let words = case.words;
+    let text = first(&words, case.length);
+    for i in 0..4 {
+        let row = failing_row(i);
+        show_row(pattern, text, first(&row, pattern.count));
+    }
+}
+
 // Runs the texts.
 fn main() {
-    for k in 0..22 {
+    for k in 0..23 {
         show_text(k);
     }
+    show_failing();
 }

@@ -1,9 +1,9 @@
 // The texts with sentence ends of matching/specs/SentenceTexts.antt, then those for excluding slots of matching/specs/ExcludingTexts.antt,
-// in their order: a line for a text.
+// in their order, and last the one for the conditions of matching/specs/ConditionTexts.antt: a line for a text.
 // The letters a, b, c and x are the words 1, 2, 3 and 6, a full stop the word 0.
 
 // Each text's words, with zeros after them that are no part of it.
-pub(crate) const WORDS: [[u16; 16]; 22] = [
+pub(crate) const WORDS: [[u16; 16]; 23] = [
     // xa.bx
     [6, 1, 0, 2, 6, 0, 0, 0, 0, 0, 0, 0, 0, 0, 0, 0],
     // xabx
@@ -48,10 +48,12 @@ pub(crate) const WORDS: [[u16; 16]; 22] = [
     [1, 2, 3, 0, 0, 0, 0, 0, 0, 0, 0, 0, 0, 0, 0, 0],
     // abc
     [1, 2, 3, 0, 0, 0, 0, 0, 0, 0, 0, 0, 0, 0, 0, 0],
+    // abxbba.b
+    [1, 2, 6, 2, 2, 1, 0, 2, 0, 0, 0, 0, 0, 0, 0, 0],
 ];
 
 // How many words each text has, and the span limits of its pattern.
-pub(crate) const SIZES: [[u16; 3]; 22] = [
+pub(crate) const SIZES: [[u16; 3]; 23] = [
     [5, 1, 20000],
     [4, 1, 20000],
     [4, 1, 20000],
@@ -74,11 +76,12 @@ pub(crate) const SIZES: [[u16; 3]; 22] = [
     [8, 1, 20000],
     [3, 1, 20000],
     [3, 1, 20000],
+    [8, 2, 4],
 ];
 
 // The slots of each pattern: low, high, mark (1 for an excluding slot) and up to two words of each, with zeros after the last: a plain slot
 // that lists no word is refused and changes nothing.
-pub(crate) const SLOTS: [[u16; 20]; 22] = [
+pub(crate) const SLOTS: [[u16; 20]; 23] = [
     // a[0,3]b, for nine texts
     [0, 0, 0, 1, 0, 0, 3, 0, 2, 0, 0, 0, 0, 0, 0, 0, 0, 0, 0, 0],
     [0, 0, 0, 1, 0, 0, 3, 0, 2, 0, 0, 0, 0, 0, 0, 0, 0, 0, 0, 0],
@@ -114,10 +117,12 @@ pub(crate) const SLOTS: [[u16; 20]; 22] = [
     [0, 0, 0, 1, 0, 0, 0, 1, 2, 0, 0, 0, 0, 3, 0, 0, 0, 0, 0, 0],
     // a, any word but x, c, without gaps
     [0, 0, 0, 1, 0, 0, 0, 1, 6, 0, 0, 0, 0, 3, 0, 0, 0, 0, 0, 0],
+    // a[1,3]b, spans 2 to 4
+    [0, 0, 0, 1, 0, 1, 3, 0, 2, 0, 0, 0, 0, 0, 0, 0, 0, 0, 0, 0],
 ];
 
 // A row of each text to be tested, with zeros after it.
-pub(crate) const ROWS: [[u16; 4]; 22] = [
+pub(crate) const ROWS: [[u16; 4]; 23] = [
     [2, 4, 0, 0],
     [2, 3, 0, 0],
     [1, 4, 0, 0],
@@ -140,4 +145,17 @@ pub(crate) const ROWS: [[u16; 4]; 22] = [
     [3, 4, 5, 0],
     [1, 2, 3, 0],
     [1, 2, 3, 0],
+    [1, 4, 0, 0],
+];
+
+// More rows of the last text: each fails one condition of an occurrence alone.
+pub(crate) const FAILING: [[u16; 4]; 4] = [
+    // word: x stands at place 3
+    [1, 3, 0, 0],
+    // gap: no word between
+    [1, 2, 0, 0],
+    // span: five words
+    [1, 5, 0, 0],
+    // sentence: the full stop at place 7
+    [6, 8, 0, 0],
 ];

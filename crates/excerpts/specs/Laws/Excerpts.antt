@@ -37,13 +37,13 @@ hit f t row e =
 
 -- from its first place to its last
 pub hit-first : {f : Pattern} {t row : List ℕ} → Hit f t row → 1 ≤ at row 0
-hit-first h = h .occurs .inside 0 (h .accepted .ready .some) .0
+hit-first h = h .occurs .word 0 (h .accepted .ready .some) .inside .0
 
 pub hit-order : {f : Pattern} {t row : List ℕ} → Hit f t row → at row 0 ≤ at row (f .count - 1)
 hit-order h = omega (arith, h .occurs .span, h .accepted .ready .least)
 
 pub hit-last : {f : Pattern} {t row : List ℕ} → Hit f t row → at row (f .count - 1) ≤ length t
-hit-last {f} h = h .occurs .inside (f .count - 1) (omega (arith, h .accepted .ready .some)) .1
+hit-last {f} h = h .occurs .word (f .count - 1) (omega (arith, h .accepted .ready .some)) .inside .1
 
 -- ---- the excerpt
 

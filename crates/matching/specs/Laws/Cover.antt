@@ -8,7 +8,7 @@ use lib.ListN.{length}
 use lib.Dec.{ltb}
 use borrow.Author.Tests.{ltb-true, lt-ltb}
 use Rattle.pattern.specs.declared.Pattern.{Pattern}
-use Rattle.matching.specs.Occurrence.{View, Unbroken, OccursIn, at}
+use Rattle.matching.specs.Occurrence.{View, Span, SentenceIn, OccursIn, at}
 use Rattle.pattern.specs.Patterns.{slotAt}
 use Rattle.matching.specs.Spans.{distance, near, far, width, horizon, limit, least}
 use Rattle.matching.specs.Branches.{stands, ways}
@@ -51,11 +51,11 @@ module _ (f : Pattern) where
     into stop from r o below last = (
       part-of f v stop from (f .count - 1) 0 r (omega (arith, o .size))
           (λ i h. let e : 0 + i ≡ i = omega arith in
-          rw e (and-eq-true-iff (ltb (at r i) (stop i)) (v .fits i (at r i)) .1 (lt-ltb _ _ (below i h), o .fit i (omega arith))))
+          rw e (and-eq-true-iff (ltb (at r i) (stop i)) (v .fits i (at r i)) .1 (lt-ltb _ _ (below i h), o .word i (omega arith) .fit)))
           (λ i h. let e : 0 + i + 1 ≡ i + 1 = omega arith in let d : suc i ≡ i + 1 = omega arith in rw (e, d) (o .gap i (omega arith)))
           last,
-      o .inside 0 (omega arith) .0,
-      o .inside 0 (omega arith) .1,
+      o .word 0 (omega arith) .inside .0,
+      o .word 0 (omega arith) .inside .1,
     )
 
     occurs-gaps : {r : List ℕ} → OccursIn f v r → Gaps r (f .count - 1)
@@ -64,18 +64,20 @@ module _ (f : Pattern) where
     -- it stands no further than the horizon of its first place
     occurs-horizon : {r : List ℕ} → OccursIn f v r → (i : ℕ) → i ≤ f .count - 1 → at r i ≤ horizon v (at r 0)
     occurs-horizon o i h =
-        let last = horizon-reached v (o .inside 0 some .1) (o .inside (f .count - 1) (omega arith) .1) (o .sentence) in
+        let last = horizon-reached v (o .word 0 some .inside .1) (o .word (f .count - 1) (omega arith) .inside .1) (o .sentence) in
         omega (arith, occurs-between o i (omega arith))
 
     back : {stop : ℕ → ℕ} {from : ℕ} (r : List ℕ) → Part f v stop from (f .count - 1) 0 r → 1 ≤ at r 0 → ((i : ℕ) → stop i ≤ v .places + 1)
-        → (at r 0 + f .least ≤ at r (f .count - 1) + 1) × (at r (f .count - 1) + 1 ≤ at r 0 + f .most) → Unbroken (v .ends) (at r 0) (at r (f .count - 1)) → OccursIn f v r
+        → Span f r → SentenceIn f v r → OccursIn f v r
     back {stop} {from} r q one short span sentence =
         let g = part-gaps q in
         let w = part-below q in
         record {
           size = omega (arith, part-size f v stop from q);
-          inside = λ j h. (omega (arith, gaps-near r (f .count - 1) g j (omega arith)), omega (arith, w j (omega arith) .0, short j));
-          fit = λ j h. w j (omega arith) .1;
+          word = λ j h. record {
+            inside = (omega (arith, gaps-near r (f .count - 1) g j (omega arith)), omega (arith, w j (omega arith) .0, short j));
+            fit = w j (omega arith) .1;
+          };
           gap = λ j h. let e : j + 1 ≡ suc j = omega arith in rw e (g j (omega arith));
           span = span;
           sentence = sentence;

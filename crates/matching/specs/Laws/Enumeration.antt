@@ -69,7 +69,7 @@ pub occurrences-iff : (f : Pattern) (v : View) (r : List ℕ) → List·Memᴰ r
 unfolding occurrencesIn
 occurrences-iff f v r = (
   every-mem (occurrences-occur f v),
-  λ o. select-mem (occursIn f v) (rows-mem (f .count) (v .places) r (o .size) (o .inside)) (occurs-iff f v r .1 o),
+  λ o. select-mem (occursIn f v) (rows-mem (f .count) (v .places) r (o .size) (λ j h. o .word j h .inside)) (occurs-iff f v r .1 o),
 )
 
 pub occurrences-lex : (f : Pattern) (v : View) → Pairwise Lex (occurrencesIn f v)

@@ -38,7 +38,7 @@ module _ (f : Pattern) (v : View) (some-slot : 1 ≤ f .count) where
     complete = λ r. occurrences-iff f v r .1;
     tested = before-iff (f .count);
     near-hit = occurs-sublattice f v .meets;
-    deeper = λ a r o p. omega (arith, o .inside 0 some-slot, p 0 some-slot);
+    deeper = λ a r o p. omega (arith, o .word 0 some-slot .inside, p 0 some-slot);
   }
 
   downwards : Searchable (OccursIn f v) (After (f .count)) (occurrencesIn f v) (λ a r. before (f .count) r a) join (λ r. min (at r 0 - 1) (v .places))
@@ -48,7 +48,7 @@ module _ (f : Pattern) (v : View) (some-slot : 1 ≤ f .count) where
     complete = λ r. occurrences-iff f v r .1;
     tested = λ r s. before-iff (f .count) s r;
     near-hit = occurs-sublattice f v .joins;
-    deeper = λ a r o p. omega (arith, o .inside 0 some-slot, p 0 some-slot);
+    deeper = λ a r o p. omega (arith, o .word 0 some-slot .inside, p 0 some-slot);
   }
 
   -- ---- the searches: the nearest occurrence, and none exactly if there is none

@@ -61,7 +61,7 @@ module _ (f : Pattern) {v w x : View} (J : Joined (f .count) v w x) (some : 1 �
   second-whole {r} O = piece-whole (J .second) some (moved O) (length-map r (λ p. p + n) ∙ O .size) O
 
   whole-first : {r : List ℕ} → OccursIn f x r → at r (f .count - 1) ≤ v .places → OccursIn f v r
-  whole-first O l = whole-piece (J .first) some (λ j h. omega arith) (O .size) (λ j h. (O .inside j h .0, omega (arith, occurs-between O j h))) O
+  whole-first O l = whole-piece (J .first) some (λ j h. omega arith) (O .size) (λ j h. (O .word j h .inside .0, omega (arith, occurs-between O j h))) O
 
   whole-second : {s : List ℕ} → OccursIn f x s → n < at s 0 → Lies f v w s
   whole-second {s} O l =
@@ -69,14 +69,14 @@ module _ (f : Pattern) {v w x : View} (J : Joined (f .count) v w x) (some : 1 �
       let back : shifted n r ≡ s = shifted-back n s (λ j h. omega (arith, occurs-between O j (omega (arith, O .size)))) in
       let size : length r ≡ f .count = length-map s (λ p. p - n) ∙ O .size in
       let down : (j : ℕ) → j < f .count → at r j ≡ at s j - n = λ j h. map-at (λ p. p - n) s 0 0 j (omega (arith, O .size)) in
-      let inside : (j : ℕ) → j < f .count → (1 ≤ at r j) × (at r j ≤ w .places) = λ j h. omega (arith, down j h, O .inside j h, occurs-between O j h, J .size) in
+      let inside : (j : ℕ) → j < f .count → (1 ≤ at r j) × (at r j ≤ w .places) = λ j h. omega (arith, down j h, O .word j h .inside, occurs-between O j h, J .size) in
       subst (Lies f v w) back (in-second {r = r} (whole-piece (J .second) some (λ j h. at-shifted n r j (omega arith)) size inside (subst (OccursIn f x) (sym back) O)))
 
   -- no place of an occurrence is the one between the two views, nor do places on both sides of it keep to one sentence
   one-side : {s : List ℕ} → OccursIn f x s → at s 0 ≤ n → n ≤ at s (f .count - 1) → ⊥
   one-side {s} O a b =
       let m : f .count - 1 < f .count = omega arith in
-      let unlike : (j : ℕ) → j < f .count → at s j ≡ n → ⊥ = λ j h e. true≢false (sym (J .stop) ∙ sym (ap (x .ends) e) ∙ J .no-end .unfit j h (at s j) (O .fit j h)) in
+      let unlike : (j : ℕ) → j < f .count → at s j ≡ n → ⊥ = λ j h e. true≢false (sym (J .stop) ∙ sym (ap (x .ends) e) ∙ J .no-end .unfit j h (at s j) (O .word j h .fit)) in
       true≢false (sym (J .stop) ∙ O .sentence n (omega (arith, unlike 0 some)) (omega (arith, unlike (f .count - 1) m)))
 
   occurs-lies : {s : List ℕ} → OccursIn f x s → Lies f v w s
@@ -103,7 +103,7 @@ module _ (f : Pattern) {v w x : View} (J : Joined (f .count) v w x) (some : 1 �
   listed-lie = every-append (every-map (λ r O. in-first O) (occurrences-occur f v)) (map-every (shifted n) (λ r O. in-second O) (occurrences-occur f w))
 
   second-later : {r s : List ℕ} → OccursIn f v r → OccursIn f w s → (j : ℕ) → j < f .count → at r j < at (shifted n s) j
-  second-later O Q j h = omega (arith, moved Q j h, O .inside j h)
+  second-later O Q j h = omega (arith, moved Q j h, O .word j h .inside)
 
   listed-lex : Pairwise Lex (occurrencesIn f v ++ map (shifted n) (occurrencesIn f w))
   listed-lex =
@@ -137,7 +137,7 @@ module _ (f : Pattern) {v w x : View} (J : Joined (f .count) v w x) (some : 1 �
       record {
         onward = λ Q p j h. omega (arith, here j h, moved Q j h, p j h);
         back = λ Q p j h. omega (arith, here j h, moved Q j h, p j h);
-        none = λ s Q p. omega (arith, here 0 some, p 0 some, Q .inside 0 some);
+        none = λ s Q p. omega (arith, here 0 some, p 0 some, Q .word 0 some .inside);
       }
 
   greedy-second : {a b : List ℕ} {G : List (List ℕ)} → Abreast a b → Forward (f .count) (OccursIn f w) a G → Forward (f .count) (OccursIn f x) b (map (shifted n) G)
@@ -164,12 +164,12 @@ module _ (f : Pattern) {v w x : View} (J : Joined (f .count) v w x) (some : 1 �
   greedy-joined low (done no-more) G =
       greedy-second (record {
         onward = λ O p j h. omega (arith, moved O j h, low j h);
-        back = λ O p j h. omega (arith, at-level (f .count) 0 j h, O .inside j h);
+        back = λ O p j h. omega (arith, at-level (f .count) 0 j h, O .word j h .inside);
         none = no-more;
       }) G
   greedy-joined low (next N F) G =
       next (record { hit = first-whole (N .hit); past = N .past; least = λ s O. first-least N (occurs-lies O) })
-      (greedy-joined (λ j h. N .hit .inside j h .1) F G)
+      (greedy-joined (λ j h. N .hit .word j h .inside .1) F G)
 
   -- that of v, then that of w, shifted
   pub leftmostIn-joined : leftmostIn f x ≡ leftmostIn f v ++ map (shifted (v .places + 1)) (leftmostIn f w)

@@ -26,8 +26,8 @@ module _ {f : Pattern} {v : View} (ok : AcceptedInput f (v .places)) where
   unfolding Before
   bounded = record {
     lattice = occurs-sublattice f v;
-    after-first = λ r o j h. omega (arith, o .inside j h, at-level (f .count) 0 j h);
-    before-last = λ r o j h. omega (arith, o .inside j h, at-level (f .count) 65535 j h, ok .short);
+    after-first = λ r o j h. omega (arith, o .word j h .inside, at-level (f .count) 0 j h);
+    before-last = λ r o j h. omega (arith, o .word j h .inside, at-level (f .count) 65535 j h, ok .short);
   }
 
   pub largest : LargestIn f v (leftmostIn f v) (rightmostIn f v)

@@ -75,21 +75,22 @@ module _ {f : Pattern} {v : View} {g : Pattern} {u : View} (F : Facing f v g u) 
     pub facing-occurs : 1 ≤ f .count → OccursIn g u (flip (v .places) r)
     facing-occurs some = record {
       size = length-flip n r ∙ O .size ∙ sym (F .count);
-      inside = λ j h. let i = m - 1 - j in let e : i + j + 1 ≡ m = omega (arith, F .count) in
-          omega (arith, turned i j e, O .inside i (omega arith), F .size);
-      fit = λ j h. let i = m - 1 - j in let e : i + j + 1 ≡ m = omega (arith, F .count) in
+      word = λ j h. let i = m - 1 - j in let e : i + j + 1 ≡ m = omega (arith, F .count) in
           let l : i < m = omega arith in
-          F .fits i j e (at s j) (at r i) (omega (arith, turned i j e, O .inside i l)) (omega (arith, turned i j e, O .inside i l)) (omega (arith, O .inside i l)) ∙ O .fit i l;
+          let t = turned i j e in
+          let w = O .word i l in
+          let in-text = w .inside in
+          record { inside = omega (arith, F .size); fit = F .fits i j e (at s j) (at r i) (omega arith) (omega arith) (omega arith) ∙ w .fit };
       gap = λ j h. let i = m - 2 - j in
           let e : i + 1 + j + 1 ≡ m = omega (arith, F .count) in
           let e' : i + (j + 1) + 1 ≡ m = omega arith in
           let l : i + 1 < m = omega arith in
-          omega (arith, turned (i + 1) j e, turned i (j + 1) e', O .gap i l, O .inside i (omega arith), O .inside (i + 1) l, F .low (i + 1) (j + 1) (omega arith) (omega arith) (omega arith), F .high (i + 1) (j + 1) (omega arith) (omega arith) (omega arith));
+          omega (arith, turned (i + 1) j e, turned i (j + 1) e', O .gap i l, O .word i (omega arith) .inside, O .word (i + 1) l .inside, F .low (i + 1) (j + 1) (omega arith) (omega arith) (omega arith), F .high (i + 1) (j + 1) (omega arith) (omega arith) (omega arith));
       span = let i = m - 1 in
           let c : g .count - 1 ≡ m - 1 = omega (arith, F .count) in
           let e : i + 0 + 1 ≡ m = omega arith in
           let e' : 0 + i + 1 ≡ m = omega arith in
-          rw c (omega (arith, turned i 0 e, turned 0 i e', O .span, O .inside 0 some, O .inside i (omega arith), F .least, F .most));
+          rw c (omega (arith, turned i 0 e, turned 0 i e', O .span, O .word 0 some .inside, O .word i (omega arith) .inside, F .least, F .most));
       sentence = λ x a b. let i = m - 1 in
           let c : g .count - 1 ≡ m - 1 = omega (arith, F .count) in
           let e : i + 0 + 1 ≡ m = omega arith in
@@ -97,8 +98,8 @@ module _ {f : Pattern} {v : View} {g : Pattern} {u : View} (F : Facing f v g u) 
           let b' = rw c at b in
           let first = turned i 0 e in
           let last = turned 0 i e' in
-          let start = O .inside 0 some in
-          let end = O .inside i (omega arith) in
+          let start = O .word 0 some .inside in
+          let end = O .word i (omega arith) .inside in
           F .ends x (n + 1 - x) (omega arith) (omega arith) (omega arith) ∙ O .sentence (n + 1 - x) (omega arith) (omega arith);
     }
 
@@ -111,7 +112,7 @@ module _ {f : Pattern} {v : View} {g : Pattern} {u : View} (F : Facing f v g u) 
 
   row-opposite : {r : List ℕ} → OccursIn g u r → Opposite (f .count) (v .places) (flip (v .places) r) r
   row-opposite {r} O = record {
-    turn = λ i j e. omega (arith, flip-opposite (v .places) r .turn j i (omega (arith, O .size, F .count)), O .inside j (omega (arith, F .count)), F .size);
+    turn = λ i j e. omega (arith, flip-opposite (v .places) r .turn j i (omega (arith, O .size, F .count)), O .word j (omega (arith, F .count)) .inside, F .size);
   }
 
   module _ {marks far : List ℕ} (M : Opposite (f .count) (v .places) marks far) where
@@ -121,7 +122,7 @@ module _ {f : Pattern} {v : View} {g : Pattern} {u : View} (F : Facing f v g u) 
         let i = f .count - 1 - j in
         let e : i + j + 1 ≡ f .count = omega (arith, F .count) in
         let l : i < f .count = omega arith in
-        omega (arith, M .turn i j e, flip-opposite (v .places) r .turn i j (omega (arith, O .size)), P i l, O .inside i l)
+        omega (arith, M .turn i j e, flip-opposite (v .places) r .turn i j (omega (arith, O .size)), P i l, O .word i l .inside)
 
     pub nearest-back : {r : List ℕ} → Nearest (OccursIn g u) (Before (g .count)) (NotAfter (g .count)) far r
         → Nearest (OccursIn f v) (After (f .count)) (NotBefore (f .count)) marks (flip (v .places) r)
@@ -131,11 +132,11 @@ module _ {f : Pattern} {v : View} {g : Pattern} {u : View} (F : Facing f v g u) 
       past = λ i h. let j = f .count - 1 - i in
           let e : i + j + 1 ≡ f .count = omega arith in
           let l : j < g .count = omega (arith, F .count) in
-          omega (arith, M .turn i j e, N .past j l, N .hit .inside j l, F .size, flip-opposite (v .places) r .turn j i (omega (arith, N .hit .size, F .count)));
+          omega (arith, M .turn i j e, N .past j l, N .hit .word j l .inside, F .size, flip-opposite (v .places) r .turn j i (omega (arith, N .hit .size, F .count)));
       least = λ s O P i h. let j = f .count - 1 - i in
           let e : i + j + 1 ≡ f .count = omega arith in
           let l : j < g .count = omega (arith, F .count) in
-          omega (arith, N .least (flip (v .places) s) (facing-occurs F O some) (past-there O P) j l, flip-opposite (v .places) s .turn i j (omega (arith, O .size)), O .inside i h, N .hit .inside j l, F .size, flip-opposite (v .places) r .turn j i (omega (arith, N .hit .size, F .count)));
+          omega (arith, N .least (flip (v .places) s) (facing-occurs F O some) (past-there O P) j l, flip-opposite (v .places) s .turn i j (omega (arith, O .size)), O .word i h .inside, N .hit .word j l .inside, F .size, flip-opposite (v .places) r .turn j i (omega (arith, N .hit .size, F .count)));
     }
 
     pub none-back : ((s : List ℕ) → OccursIn g u s → Before (g .count) far s → ⊥) → (s : List ℕ) → OccursIn f v s → After (f .count) marks s → ⊥
@@ -151,6 +152,6 @@ module _ {f : Pattern} {v : View} {g : Pattern} {u : View} (F : Facing f v g u) 
   unfolding Before
   front-back-list short G =
       greedy-from {a = level (f .count) (v .places + 1)} {b = level (f .count) 65535}
-      (λ s o p j h. omega (arith, o .inside j h, at-level (f .count) 65535 j h))
-      (λ s o p j h. omega (arith, o .inside j h, at-level (f .count) (v .places + 1) j h))
+      (λ s o p j h. omega (arith, o .word j h .inside, at-level (f .count) 65535 j h))
+      (λ s o p j h. omega (arith, o .word j h .inside, at-level (f .count) (v .places + 1) j h))
       (greedy-back (record { turn = λ i j e. omega (arith, at-level (g .count) 0 j (omega (arith, F .count)), at-level (f .count) (v .places + 1) i (omega arith)) }) G)

@@ -55,8 +55,7 @@ occurs-moved {f} {r = r} {s = s} some a b move size inside fits ends O =
     let first = move 0 some in
     record {
       size = size;
-      inside = inside;
-      fit = λ j h. fits j h ∙ O .fit j h;
+      word = λ j h. record { inside = inside j h; fit = fits j h ∙ O .word j h .fit };
       gap = λ j h. omega (arith, move j (omega arith), move (j + 1) h, O .gap j h);
       span = omega (arith, O .span);
       sentence = λ q l h. let p = q + b - a in ends p q (omega arith) (omega arith) (omega arith) ∙ O .sentence p (omega arith) (omega arith);
@@ -67,10 +66,10 @@ module _ {f : Pattern} {n : ℕ} {v x : View} (P : Piece (f .count) n v x) (some
   -- what occurs in the piece occurs in the whole
   pub piece-whole : length s ≡ f .count → OccursIn f v r → OccursIn f x s
   piece-whole size O =
-      let last = O .inside (f .count - 1) (omega arith) in
+      let last = O .word (f .count - 1) (omega arith) .inside in
       occurs-moved some n 0 (λ j h. omega (arith, move j h)) size
-      (λ j h. omega (arith, move j h, O .inside j h, P .room))
-      (λ j h. P .fits j h (at r j) (at s j) (move j h) (O .inside j h .0) (O .inside j h .1))
+      (λ j h. omega (arith, move j h, O .word j h .inside, P .room))
+      (λ j h. P .fits j h (at r j) (at s j) (move j h) (O .word j h .inside .0) (O .word j h .inside .1))
       (λ p q e l h. P .ends p q (omega arith) (omega arith) (omega arith))
       O
 

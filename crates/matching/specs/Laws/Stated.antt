@@ -14,7 +14,7 @@ use Rattle.pattern.specs.Agree.{Agree}
 use Rattle.pattern.specs.Laws.Stated.{input-same}
 use Rattle.pattern.specs.Laws.Agree.{agree-takes, same-agree}
 use Rattle.matching.specs.Occurrence.{View, plain, at, wordAt}
-use Rattle.matching.specs.Occurrences.{within, occursIn, occurs, occurrencesIn, occurrences}
+use Rattle.matching.specs.Occurrences.{within, fitsIn, wordIn, gap, span, sentenceIn, occursIn, occurs, occurrencesIn, occurrences}
 use Rattle.matching.specs.Lists.{leftmostIn, rightmostIn, leftmost, rightmost}
 use Rattle.matching.specs.Answers.{rowVerdict, firstAfter, lastBefore, listed, filled, frontListed, frontWritten, backListed, backWritten, counted}
 use Rattle.matching.specs.Laws.Tests.{each-same}
@@ -29,17 +29,33 @@ module _ {f g : Pattern} (agree : Agree f g) where
   pub plain-same : (t : List ℕ) → SameView (f .count) (plain f t) (plain g t)
   plain-same t = record { places = refl; fits = λ j h p. agree-takes (agree .slot j h) (wordAt t p); ends = λ p. refl }
 
+  gap-same : (r : List ℕ) → gap f r ≡ gap g r
+  unfolding gap
+  gap-same r =
+      let gaps = each-same (f .count - 1)
+      (λ j. within (at r j + slotAt f (j + 1) .low + 1) (at r (j + 1)) (at r j + slotAt f (j + 1) .high + 1))
+      (λ j. within (at r j + slotAt g (j + 1) .low + 1) (at r (j + 1)) (at r j + slotAt g (j + 1) .high + 1))
+      (λ j h. rw (agree .slot (j + 1) (omega arith) .low, agree .slot (j + 1) (omega arith) .high)) in
+      rw (gaps, agree .count)
+
+  span-same : (r : List ℕ) → span f r ≡ span g r
+  unfolding span
+  span-same r = rw (agree .count, agree .least, agree .most)
+
   module _ {v w : View} (alike : SameView (f .count) v w) where
+    word-same : (r : List ℕ) → wordIn f v r ≡ wordIn g w r
+    unfolding wordIn fitsIn
+    word-same r =
+        let fits = each-same (f .count) (λ j. fitsIn v j (at r j)) (λ j. fitsIn w j (at r j)) (λ j h. rw (alike .places, alike .fits j h (at r j))) in
+        rw (fits, agree .count)
+
+    sentence-same : (r : List ℕ) → sentenceIn f v r ≡ sentenceIn g w r
+    unfolding sentenceIn
+    sentence-same r = let ends : v .ends ≡ w .ends = fun-ext (alike .ends) in rw (ends, agree .count)
+
     pub occurs-same : (r : List ℕ) → occursIn f v r ≡ occursIn g w r
     unfolding occursIn
-    occurs-same r =
-        let fits = each-same (f .count) (λ j. v .fits j (at r j)) (λ j. w .fits j (at r j)) (λ j h. alike .fits j h (at r j)) in
-        let gaps = each-same (f .count - 1)
-        (λ j. within (at r j + slotAt f (j + 1) .low + 1) (at r (j + 1)) (at r j + slotAt f (j + 1) .high + 1))
-        (λ j. within (at r j + slotAt g (j + 1) .low + 1) (at r (j + 1)) (at r j + slotAt g (j + 1) .high + 1))
-        (λ j h. rw (agree .slot (j + 1) (omega arith) .low, agree .slot (j + 1) (omega arith) .high)) in
-        let ends : v .ends ≡ w .ends = fun-ext (alike .ends) in
-        rw (fits, gaps, ends, agree .count, agree .least, agree .most, alike .places)
+    occurs-same r = rw (word-same r, gap-same r, span-same r, sentence-same r, agree .count)
 
     pub occurrences-same : occurrencesIn f v ≡ occurrencesIn g w
     unfolding occurrencesIn

@@ -9,8 +9,8 @@ use lib.Dec.{leb, ltb, eqb}
 use borrow.Author.Count.{below-more}
 use borrow.Author.Tests.{leb-true, le-leb, ltb-true, lt-ltb, eqb-true, eq-eqb, not-true}
 use Rattle.pattern.specs.declared.Pattern.{Pattern}
-use Rattle.matching.specs.Occurrence.{View, Unbroken, OccursIn}
-use Rattle.matching.specs.Occurrences.{within, each, unbroken, occursIn}
+use Rattle.matching.specs.Occurrence.{View, Unbroken, at, FitsIn, WordIn, Gap, Span, SentenceIn, OccursIn}
+use Rattle.matching.specs.Occurrences.{within, each, unbroken, fitsIn, wordIn, gap, span, sentenceIn, occursIn}
 use Rattle.matching.specs.Rows.{Before, before}
 
 pub within-iff : (low x high : ℕ) → (within low x high ≡ true) ↔ ((low ≤ x) × (x ≤ high))
@@ -44,15 +44,39 @@ unbroken-iff ends p q = (
   λ u. each-iff (q - p - 1) (λ i. not (ends (p + i + 1))) .1 (λ i h. rw (u (p + i + 1) (omega arith) (omega arith))),
 )
 
-ruleset tests = (and-eq-true-iff, within-iff, eqb-iff, each-iff, unbroken-iff)
+-- ---- an occurrence, condition by condition
 
-pub occurs-iff : (f : Pattern) (v : View) (r : List ℕ) → (occursIn f v r ≡ true) ↔ OccursIn f v r
-unfolding occursIn
-occurs-iff f v r = (
-  λ e. let o = simp tests at e in
-      record { size = o .0 .0 .0 .0 .0; inside = o .0 .0 .0 .0 .1; fit = o .0 .0 .0 .1; gap = λ j h. o .0 .0 .1 j (omega arith); span = o .0 .1; sentence = o .1 },
-  λ o. simp tests (((((o .size, o .inside), o .fit), λ j h. o .gap j (omega arith)), o .span), o .sentence),
+pub fits-iff : (v : View) (j place : ℕ) → (fitsIn v j place ≡ true) ↔ FitsIn v j place
+unfolding fitsIn
+fits-iff v j place = (
+  λ e. let b = simp (and-eq-true-iff, within-iff) at e in record { inside = b .0; fit = b .1 },
+  λ w. simp (and-eq-true-iff, within-iff) (w .inside, w .fit),
 )
+
+module _ (f : Pattern) where
+  pub word-iff : (v : View) (r : List ℕ) → (wordIn f v r ≡ true) ↔ WordIn f v r
+  unfolding wordIn
+  word-iff v r = (λ e. simp (each-iff, fits-iff) at e, λ w. simp (each-iff, fits-iff) w)
+
+  pub gap-iff : (r : List ℕ) → (gap f r ≡ true) ↔ Gap f r
+  unfolding gap
+  gap-iff r = (λ e j h. (simp (each-iff, within-iff) at e) j (omega arith), λ g. simp (each-iff, within-iff) (λ j h. g j (omega arith)))
+
+  pub span-iff : (r : List ℕ) → (span f r ≡ true) ↔ Span f r
+  unfolding span
+  span-iff r = within-iff (at r 0 + f .least) (at r (f .count - 1) + 1) (at r 0 + f .most)
+
+  pub sentence-iff : (v : View) (r : List ℕ) → (sentenceIn f v r ≡ true) ↔ SentenceIn f v r
+  unfolding sentenceIn
+  sentence-iff v r = unbroken-iff (v .ends) (at r 0) (at r (f .count - 1))
+
+  pub occurs-iff : (v : View) (r : List ℕ) → (occursIn f v r ≡ true) ↔ OccursIn f v r
+  unfolding occursIn
+  occurs-iff v r = (
+    λ e. let o = simp (and-eq-true-iff, eqb-iff, word-iff, gap-iff, span-iff, sentence-iff) at e in
+        record { size = o .0 .0 .0 .0; word = o .0 .0 .0 .1; gap = o .0 .0 .1; span = o .0 .1; sentence = o .1 },
+    λ o. simp (and-eq-true-iff, eqb-iff, word-iff, gap-iff, span-iff, sentence-iff) ((((o .size, o .word), o .gap), o .span), o .sentence),
+  )
 
 ltb-iff : (a b : ℕ) → (ltb a b ≡ true) ↔ (a < b)
 ltb-iff a b = (ltb-true a b, lt-ltb a b)

@@ -83,7 +83,7 @@ places-small f t short (more {x = r} {xs = R} o h) e = go (ltb e (length r)) ref
     go true b k =
         let l : e < length r = ltb-true e (length r) b in
         let i : e < f .count = omega (arith, o .size) in
-        omega (arith, List·getD-append r (flat R) 0 e l, o .inside e i)
+        omega (arith, List·getD-append r (flat R) 0 e l, o .word e i .inside)
     go false b k =
         let s : length r + (e - length r) ≡ e = omega (arith, ltb-false e (length r) b) in
         omega (arith, ap (λ (i : ℕ). getD (r ++ flat R) i 0) s, getD-append-add r (flat R) (e - length r) 0)

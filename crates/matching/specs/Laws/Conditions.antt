@@ -1,0 +1,35 @@
+-- The test of an occurrence, written out as it stood before its conditions had names: the places in the text, then their words, each in a
+-- run over the slots. Every row keeps its yes or no.
+use Prim.Native.Nat.{ℕ, zero, suc, _+_, _-_}
+use mathlib.Core.Path.{_≡_, refl, sym}
+use mathlib.Core.Bool.{Bool, true, false, _&&_, and-false, and-assoc}
+use mathlib.Core.List.{List}
+use lib.ListN.{length}
+use lib.Dec.{eqb}
+use Rattle.pattern.specs.declared.Pattern.{Pattern}
+use Rattle.pattern.specs.Patterns.{slotAt}
+use Rattle.matching.specs.Occurrence.{View, at}
+use Rattle.matching.specs.Occurrences.{within, each, unbroken, fitsIn, wordIn, gap, span, sentenceIn, occursIn}
+
+crossed : (a b c d : Bool) → (a && b && (c && d)) ≡ (a && c && (b && d))
+crossed false b c d = refl
+crossed true false c d = sym (and-false c)
+crossed true true c d = refl
+
+each-both : (n : ℕ) (p q : ℕ → Bool) → each n (λ j. p j && q j) ≡ (each n p && each n q)
+unfolding each
+each-both zero p q = refl
+each-both (suc n) p q = rw (each-both n p q) (crossed (p n) (q n) (each n p) (each n q))
+
+pub occurs-written-out : (f : Pattern) (v : View) (r : List ℕ) → occursIn f v r ≡ (
+    eqb (length r) (f .count)
+    && each (f .count) (λ j. within 1 (at r j) (v .places))
+    && each (f .count) (λ j. v .fits j (at r j))
+    && each (f .count - 1) (λ j. within (at r j + slotAt f (j + 1) .low + 1) (at r (j + 1)) (at r j + slotAt f (j + 1) .high + 1))
+    && within (at r 0 + f .least) (at r (f .count - 1) + 1) (at r 0 + f .most)
+    && unbroken (v .ends) (at r 0) (at r (f .count - 1)))
+unfolding occursIn wordIn fitsIn gap span sentenceIn
+occurs-written-out f v r =
+    let inside : ℕ → Bool = λ j. within 1 (at r j) (v .places) in
+    let fit : ℕ → Bool = λ j. v .fits j (at r j) in
+    rw (each-both (f .count) inside fit, ← and-assoc (eqb (length r) (f .count)) (each (f .count) inside) (each (f .count) fit))
