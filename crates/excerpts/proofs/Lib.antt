@@ -1,2 +1,2 @@
--- Laws that the proofs of several functions share.
-mod Placewise
+-- Laws that the proofs of the steps cite.
+mod Deciding

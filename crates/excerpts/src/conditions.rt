@@ -17,7 +17,7 @@ fn within(low: usize, x: usize, high: usize) -> bool
 }
 
 // Whether the place is in the text, and its word one that the slot takes.
-fn fits(slot: Slot, text: &[u16], place: usize) -> bool
+fn place_fits(slot: Slot, text: &[u16], place: usize) -> bool
     ensures { λ r. ⌜ r ≡ (within 1 place (length (now (text .entry))) && takesAt slot (now (text .entry)) place) ⌝ }
 {
     within(1, place, text.len()) && slot.takes(text[place - 1])
@@ -32,7 +32,7 @@ pub(crate) fn word(pattern: Pattern, text: &[u16], row: &[u16]) -> bool
     let mut j = 0;
     while j < m {
         let slot = pattern.slots[j];
-        if !fits(slot, text, widen(row[j])) {
+        if !place_fits(slot, text, widen(row[j])) {
             return false;
         }
         j += 1;

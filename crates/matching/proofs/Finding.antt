@@ -9,7 +9,7 @@ use lib.Seq.{getD-take}
 use Rattle.pattern.specs.declared.Pattern.{Pattern}
 use Rattle.basics.specs.Laws.Arrays.{zeros-at}
 use Rattle.matching.specs.declared.search.Answer.{Answer}
-use Rattle.matching.specs.Occurrence.{View, Unbroken, OccursIn, at}
+use Rattle.matching.specs.Occurrence.{View, SentenceIn, OccursIn, at}
 use Rattle.matching.specs.Rows.{level, Before, NotAfter}
 use Rattle.matching.specs.Lists.{leftmostIn}
 use Rattle.matching.specs.Steps.Settling.{Ready, Answered, Spare}
@@ -31,7 +31,7 @@ pub record Counted (g : Pattern) (u : View) (marks : List ℕ) (k : ℕ) : Type 
   pub below : k ≤ at marks 0
   pub inside : at marks 0 ≤ u .places
   pub spare : Spare (g .count) marks
-  pub clear : Unbroken (u .ends) (at marks 0) (at marks (g .count - 1))
+  pub clear : SentenceIn g u marks
 
 unfoldable pub counted-begin : (g : Pattern) (u : View) → g .count ≤ 16 → Counted g u (replicate 16 0) 0
 counted-begin g u few = record { rows = []; run = rw (take-zeros (g .count) 16 few) start; size = refl; below = omega arith; inside = omega arith; spare = record { size = refl; rest = λ j _. zeros-at 16 j }; clear = λ x a b. absurd (omega (arith, zeros-at 16 (g .count - 1))) }

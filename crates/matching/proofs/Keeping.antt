@@ -16,13 +16,17 @@ use Rattle.matching.specs.Steps.Settling.{Ready, loose, Raised, Settled}
 use Rattle.matching.proofs.Raising.{rising-same, raised-at}
 use Rattle.matching.proofs.Settling.{unsettled}
 
+-- views with the same places that slots fit have the same occurrences, but for the sentence
+carried : {f : Pattern} {v w : View} {q : List ℕ} → v .places ≡ w .places → v .fits ≡ w .fits → OccursIn f v q → SentenceIn f w q → OccursIn f w q
+carried n e o u = record { size = o .size; word = λ j h. let W = o .word j h in record { inside = rw n at (W .inside); fit = rw e at (W .fit) }; gap = o .gap; span = o .span; sentence = u }
+
 module _ {f : Pattern} {v : View} where
   -- an occurrence is one as if no sentence ended, and such a one is an occurrence where it keeps to one sentence
   loosened : {q : List ℕ} → OccursIn f v q → OccursIn f (loose v) q
-  loosened o = record { size = o .size; word = λ j h. record { inside = o .word j h .inside; fit = o .word j h .fit }; gap = o .gap; span = o .span; sentence = λ x a b. refl }
+  loosened o = carried refl refl o (λ x a b. refl)
 
   tightened : {q : List ℕ} → OccursIn f (loose v) q → SentenceIn f v q → OccursIn f v q
-  tightened o u = record { size = o .size; word = λ j h. record { inside = o .word j h .inside; fit = o .word j h .fit }; gap = o .gap; span = o .span; sentence = u }
+  tightened o u = carried refl refl o u
 
 pub settled-found : {f : Pattern} {v : View} {p q : List ℕ} {b : Bool} → b ≡ true → Settled f v p (record { found = b; places = q }) → Settled f v p (record { found = true; places = q })
 settled-found e S = rw e at S
@@ -88,7 +92,7 @@ module _ {f : Pattern} {v : View} {p₀ p : List ℕ} {from : ℕ} {q : List ℕ
   kept e =
       let h : f .count - 1 < f .count = omega (arith, ok .some) in
       let back = L .back in
-      let inside : Unbroken (v .ends) (at q 0) (at q (f .count - 1)) = λ x a b. elim (decLt x back) [
+      let inside : SentenceIn f v q = λ x a b. elim (decLt x back) [
         | yes l ↦ L .keeping .clear x (omega (arith, first-up)) (let g : from ≤ x → ⊥ = λ g. omega (arith, L .back-is .only x g (omega (arith, L .first-is))) in omega arith)
         | no l ↦ L .end-is .after x (omega arith) (omega arith) (omega (arith, L .last-is))
       ] in

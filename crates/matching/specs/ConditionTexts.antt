@@ -10,7 +10,7 @@ use Rattle.matching.specs.Occurrences.{word, gap, span, sentence}
 use Rattle.matching.specs.Answers.{rowVerdict}
 use Rattle.matching.specs.Texts.{oneWord, patternOf, Results}
 
--- a, then b with 1 to 3 words between them, 2 to 4 words in all
+-- a[1,3]b, spans 2 to 4
 unfoldable pub pattern-conditions : Pattern
 pattern-conditions = patternOf (oneWord 1 0 0 ∷ oneWord 2 1 3 ∷ []) 2 4
 
@@ -19,12 +19,12 @@ unfoldable pub text-conditions : List ℕ
 text-conditions = 1 ∷ 2 ∷ 6 ∷ 2 ∷ 2 ∷ 1 ∷ 0 ∷ 2 ∷ []
 
 -- pattern, text and row are accepted, and what the four conditions say of the row, in their order
-pub record Conditions (f : Pattern) (t r : List ℕ) (words gaps spans sentences : Bool) : Type 0 where
+pub record Conditions (f : Pattern) (t r : List ℕ) (wordHolds gapHolds spanHolds sentenceHolds : Bool) : Type 0 where
   pub accepted : rowVerdict f t r ≡ Accepted
-  pub word-is : word f t r ≡ words
-  pub gap-is : gap f r ≡ gaps
-  pub span-is : span f r ≡ spans
-  pub sentence-is : sentence f t r ≡ sentences
+  pub word-is : word f t r ≡ wordHolds
+  pub gap-is : gap f r ≡ gapHolds
+  pub span-is : span f r ≡ spanHolds
+  pub sentence-is : sentence f t r ≡ sentenceHolds
 
 pub record ConditionTexts : Type 0 where
   pub results : Results pattern-conditions text-conditions ((1 ∷ 4 ∷ []) ∷ []) ((1 ∷ 4 ∷ []) ∷ []) ((1 ∷ 4 ∷ []) ∷ []) 1 1

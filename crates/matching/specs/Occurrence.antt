@@ -46,17 +46,21 @@ Unbroken ends p q = (x : ℕ) → p < x → x < q → ends x ≡ false
 -- ---- Definition 3, condition by condition
 
 -- the place is one that is seen, and slot j fits it
-pub record FitsIn (v : View) (j place : ℕ) : Type 0 where
+pub record PlaceFitsIn (v : View) (j place : ℕ) : Type 0 where
   pub inside : (1 ≤ place) × (place ≤ v .places)
   pub fit : v .fits j place ≡ true
 
 -- word: each place is in the text, and its word is one that the slot takes
 abbrev pub WordIn : Pattern → View → List ℕ → Type 0
-WordIn f v r = (j : ℕ) → j < f .count → FitsIn v j (at r j)
+WordIn f v r = (j : ℕ) → j < f .count → PlaceFitsIn v j (at r j)
 
--- gap: before each slot j + 1, low to high words stand between its place and the one before
+-- the gap before slot j + 1, between its place and the one before, has low to high words
+abbrev pub GapFits : Pattern → List ℕ → ℕ → Type 0
+GapFits f r j = (at r j + slotAt f (j + 1) .low + 1 ≤ at r (j + 1)) × (at r (j + 1) ≤ at r j + slotAt f (j + 1) .high + 1)
+
+-- gap: each gap has low to high words
 abbrev pub Gap : Pattern → List ℕ → Type 0
-Gap f r = (j : ℕ) → j + 1 < f .count → (at r j + slotAt f (j + 1) .low + 1 ≤ at r (j + 1)) × (at r (j + 1) ≤ at r j + slotAt f (j + 1) .high + 1)
+Gap f r = (j : ℕ) → j + 1 < f .count → GapFits f r j
 
 -- span: from the first place to the last there are least to most words
 abbrev pub Span : Pattern → List ℕ → Type 0

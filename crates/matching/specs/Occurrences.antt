@@ -26,16 +26,20 @@ unfoldable pub unbroken : (ℕ → Bool) → ℕ → ℕ → Bool
 unbroken ends p q = each (q - p - 1) (λ i. not (ends (p + i + 1)))
 
 -- the place is one that is seen, and slot j fits it
-unfoldable pub fitsIn : View → ℕ → ℕ → Bool
-fitsIn v j place = within 1 place (v .places) && v .fits j place
+unfoldable pub placeFitsIn : View → ℕ → ℕ → Bool
+placeFitsIn v j place = within 1 place (v .places) && v .fits j place
 
 -- word: each place is in the text, and its word is one that the slot takes
 unfoldable pub wordIn : Pattern → View → List ℕ → Bool
-wordIn f v r = each (f .count) (λ j. fitsIn v j (at r j))
+wordIn f v r = each (f .count) (λ j. placeFitsIn v j (at r j))
 
--- gap: before each slot j + 1, low to high words stand between its place and the one before
+-- the gap before slot j + 1, between its place and the one before, has low to high words
+unfoldable pub gapFits : Pattern → List ℕ → ℕ → Bool
+gapFits f r j = within (at r j + slotAt f (j + 1) .low + 1) (at r (j + 1)) (at r j + slotAt f (j + 1) .high + 1)
+
+-- gap: each gap has low to high words
 unfoldable pub gap : Pattern → List ℕ → Bool
-gap f r = each (f .count - 1) (λ j. within (at r j + slotAt f (j + 1) .low + 1) (at r (j + 1)) (at r j + slotAt f (j + 1) .high + 1))
+gap f r = each (f .count - 1) (gapFits f r)
 
 -- span: from the first place to the last there are least to most words
 unfoldable pub span : Pattern → List ℕ → Bool

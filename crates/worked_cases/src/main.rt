@@ -1,6 +1,5 @@
-// Runs texts with sentence ends, texts for excluding slots and one for the conditions of an occurrence through the library: of each the
-// count, the tally, the front list, the back list, all occurrences, and whether one row is an occurrence; of the last also the rows that
-// fail one condition alone.
+// Runs the worked texts through the library: of each the count, the tally, the front list, the back list, all occurrences, and whether one
+// row is an occurrence; of the last also whether those are that fail one condition alone.
 mod cases;
 mod show;
 mod tables;
@@ -118,7 +117,7 @@ fn show_text(k: usize)
     show_row(pattern, text, first(&row, pattern.count));
 }
 
-// The last text's rows that fail one condition alone.
+// The rows of the last text, number 22 from 0, that fail one condition alone.
 fn show_failing() {
     let case = case_of(22);
     let pattern = case.pattern;

@@ -1,7 +1,7 @@
 -- `excerpts::is_occurrence` meets its contract: where nothing is refused the answer is by the four conditions, and each step says what its
 -- condition says.
 use Prim.Native.Nat.{ℕ}
-use mathlib.Core.Bool.{true, _&&_}
+use mathlib.Core.Bool.{true, _&&_, and-false}
 use mathlib.Core.List.{List}
 use mathlib.Core.Logic.{inl, inr}
 use mathlib.Core.Path.{_≡_, sym, _∙_}
@@ -10,12 +10,11 @@ use Rattle.pattern.specs.declared.Pattern.{Pattern}
 use Rattle.pattern.specs.declared.refusal.Verdict.the-variants.{Accepted}
 use Rattle.matching.specs.Answers.{rowVerdict}
 use Rattle.matching.specs.Occurrences.{word, gap, span, sentence}
-use Rattle.matching.specs.Laws.Ready.{RowAccepted, row-accepted}
+use Rattle.matching.specs.Laws.Ready.{row-accepted}
 use Rattle.excerpts.specs.declared.Tested.the-variants.{Yes, No}
 use Rattle.excerpts.specs.Answers.{isOccurrence}
 use Rattle.excerpts.specs.Laws.Conditions.{tested}
 use Rattle.excerpts.specs.Steps.Rows.{Sized}
-use Rattle.excerpts.proofs.Placewise.{sized}
 use borrow.Author.Needs.{needs}
 use Rattle.excerpts.proofs.is_occurrence.Statement.{statement}
 use Rattle.excerpts.proofs.is_occurrence.Tie as tie
@@ -54,8 +53,8 @@ r c = start c .args .row .now
 verdict-is : (c : tie.After-enum-told) → rowVerdict (f c) (t c) (r c) ≡ Accepted
 verdict-is c = sym (verdict-at c .row-verdict .ensures) ∙ c .enum-told .given .1
 
-accepted : (c : tie.After-enum-told) → Sized (f c) (r c)
-accepted c = sized (row-accepted {f = f c} {t = t c} {row = r c} (verdict-is c))
+sized : (c : tie.After-enum-told) → Sized (f c) (r c)
+sized c = let a = row-accepted {f = f c} {t = t c} {row = r c} (verdict-is c) in record { some = a .ready .some; few = a .ready .few; size = a .size }
 
 answer : (c : tie.After-enum-told) → isOccurrence (f c) (t c) (r c) ≡ pick (word (f c) (t c) (r c) && gap (f c) (r c) && span (f c) (r c) && sentence (f c) (t c) (r c)) Yes No
 answer c = tested (f c) (t c) (r c) (verdict-is c)
@@ -89,16 +88,16 @@ enum-told : tie.Need-enum-told
 enum-told c = search needs
 
 word-requires : tie.Need-word-requires
-word-requires c κs = accepted c
+word-requires c κs = sized c
 
 gap-requires : tie.Need-gap-requires
-gap-requires c κs = accepted (accepted-at c)
+gap-requires c κs = sized (accepted-at c)
 
 span-requires : tie.Need-span-requires
-span-requires c κs = accepted (accepted-at (word-at c))
+span-requires c κs = sized (accepted-at (word-at c))
 
 sentence-requires : tie.Need-sentence-requires
-sentence-requires c κs = let w = word-at (gap-at c) in (accepted (accepted-at w), word-holds w)
+sentence-requires c κs = let w = word-at (gap-at c) in (sized (accepted-at w), word-holds w)
 
 returns-2 : tie.Need-returns-2
 returns-2 c =
@@ -107,15 +106,15 @@ returns-2 c =
     let w = word-at g in
     simp (answer (accepted-at w), word-holds w, gap-holds g, span-holds s, sentence-holds c)
 
+-- whichever condition fails, not all four hold
 returns-3 : tie.Need-returns-3
 returns-3 c =
-    let a = c .before .before in
-    let w = sym (c .before .word .ensures) in
+    let all-four = answer (c .before .before) in
     elim (c .if1 .came) [
-      | inl x ↦ simp (answer a, w ∙ x .0 .taken, sym (x .1 .ensures) ∙ x .2 .taken, sym (x .3 .ensures) ∙ x .4 .taken, sym (x .5 .ensures) ∙ x .6 .left)
+      | inl x ↦ simp (all-four, sym (x .5 .ensures) ∙ x .6 .left, and-false)
       | inr y ↦ elim y [
-        | inl x ↦ simp (answer a, w ∙ x .0 .taken, sym (x .1 .ensures) ∙ x .2 .taken, sym (x .3 .ensures) ∙ x .4 .left)
-        | inr z ↦ elim z [ inl x ↦ simp (answer a, w ∙ x .0 .taken, sym (x .1 .ensures) ∙ x .2 .left) | inr x ↦ simp (answer a, w ∙ x .left) ]
+        | inl x ↦ simp (all-four, sym (x .3 .ensures) ∙ x .4 .left, and-false)
+        | inr z ↦ elim z [ inl x ↦ simp (all-four, sym (x .1 .ensures) ∙ x .2 .left, and-false) | inr x ↦ simp (all-four, sym (c .before .word .ensures) ∙ x .left) ]
       ]
     ]
 

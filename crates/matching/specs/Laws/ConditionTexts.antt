@@ -9,7 +9,7 @@ use Rattle.pattern.specs.Patterns.{member, takes}
 use Rattle.pattern.specs.Words.{rises}
 use Rattle.pattern.specs.Tests.{slotVerdict, slotsVerdict, spanVerdict, limitsVerdict, patternVerdict, inputVerdict}
 use Rattle.matching.specs.Occurrence.{plain}
-use Rattle.matching.specs.Occurrences.{within, each, unbroken, fitsIn, wordIn, gap, span, sentenceIn, places, occurrences}
+use Rattle.matching.specs.Occurrences.{within, each, unbroken, placeFitsIn, wordIn, gapFits, gap, span, sentenceIn, places, occurrences}
 use Rattle.matching.specs.Rows.{before, meet, join}
 use Rattle.matching.specs.Searches.{nearest, extreme, earliestOf, latestOf}
 use Rattle.matching.specs.Lists.{onward, follow}
@@ -31,7 +31,7 @@ unfolding pattern-conditions text-conditions patternOf oneWord inputVerdict patt
 results-conditions = results hits-conditions refl refl refl refl refl
 
 pub condition-texts : ConditionTexts
-unfolding pattern-conditions text-conditions patternOf oneWord rowVerdict inputVerdict patternVerdict limitsVerdict slotsVerdict slotVerdict spanVerdict rises member takes wordIn fitsIn gap span sentenceIn within each unbroken
+unfolding pattern-conditions text-conditions patternOf oneWord rowVerdict inputVerdict patternVerdict limitsVerdict slotsVerdict slotVerdict spanVerdict rises member takes wordIn placeFitsIn gap gapFits span sentenceIn within each unbroken
 condition-texts = record {
   results = results-conditions;
   all-hold = record { accepted = refl; word-is = refl; gap-is = refl; span-is = refl; sentence-is = refl };

@@ -10,7 +10,7 @@ use Rattle.pattern.specs.Patterns.{member, takes}
 use Rattle.pattern.specs.Words.{rises}
 use Rattle.pattern.specs.Tests.{slotVerdict, slotsVerdict, spanVerdict, limitsVerdict, patternVerdict, inputVerdict}
 use Rattle.matching.specs.Occurrence.{plain, Occurs}
-use Rattle.matching.specs.Occurrences.{within, each, unbroken, fitsIn, wordIn, gap, span, sentenceIn, occursIn, places, occurrences}
+use Rattle.matching.specs.Occurrences.{within, each, unbroken, placeFitsIn, wordIn, gapFits, gap, span, sentenceIn, occursIn, places, occurrences}
 use Rattle.matching.specs.Rows.{before, meet, join}
 use Rattle.matching.specs.Searches.{nearest, extreme, earliestOf, latestOf}
 use Rattle.matching.specs.Lists.{onward, follow}
@@ -36,7 +36,7 @@ unfolding pattern-compared text-compared patternOf oneWord anyBut inputVerdict p
 compared = results hits-compared refl refl refl refl refl
 
 compared-not : Occurs pattern-compared text-compared (3 ∷ 4 ∷ 5 ∷ []) → ⊥
-unfolding pattern-compared text-compared patternOf oneWord anyBut occursIn wordIn fitsIn gap span sentenceIn within each unbroken takes member
+unfolding pattern-compared text-compared patternOf oneWord anyBut occursIn wordIn placeFitsIn gap gapFits span sentenceIn within each unbroken takes member
 compared-not o = true≢false (sym (occurs-iff pattern-compared (plain pattern-compared text-compared) (3 ∷ 4 ∷ 5 ∷ []) .1 o))
 
 hits-shared : occurrences pattern-shared text-shared ≡ (1 ∷ 2 ∷ 3 ∷ []) ∷ (1 ∷ 3 ∷ 5 ∷ []) ∷ []
@@ -52,7 +52,7 @@ unfolding pattern-shared text-shared patternOf oneWord anyBut inputVerdict patte
 shared = results hits-shared refl refl refl refl refl
 
 shared-not : Occurs pattern-shared text-shared (3 ∷ 4 ∷ 5 ∷ []) → ⊥
-unfolding pattern-shared text-shared patternOf oneWord anyBut occursIn wordIn fitsIn gap span sentenceIn within each unbroken takes member
+unfolding pattern-shared text-shared patternOf oneWord anyBut occursIn wordIn placeFitsIn gap gapFits span sentenceIn within each unbroken takes member
 shared-not o = true≢false (sym (occurs-iff pattern-shared (plain pattern-shared text-shared) (3 ∷ 4 ∷ 5 ∷ []) .1 o))
 
 hits-beside : occurrences pattern-next text-beside ≡ (4 ∷ 5 ∷ []) ∷ []
@@ -68,7 +68,7 @@ unfolding pattern-next text-beside patternOf oneWord anyBut inputVerdict pattern
 beside = results hits-beside refl refl refl refl refl
 
 beside-not : Occurs pattern-next text-beside (1 ∷ 2 ∷ []) → ⊥
-unfolding pattern-next text-beside patternOf oneWord anyBut occursIn wordIn fitsIn gap span sentenceIn within each unbroken takes member
+unfolding pattern-next text-beside patternOf oneWord anyBut occursIn wordIn placeFitsIn gap gapFits span sentenceIn within each unbroken takes member
 beside-not o = true≢false (sym (occurs-iff pattern-next (plain pattern-next text-beside) (1 ∷ 2 ∷ []) .1 o))
 
 hits-past : occurrences pattern-near text-past ≡ []
@@ -80,7 +80,7 @@ unfolding pattern-near text-past patternOf oneWord anyBut inputVerdict patternVe
 past = results hits-past refl refl refl refl refl
 
 past-not : Occurs pattern-near text-past (1 ∷ 3 ∷ []) → ⊥
-unfolding pattern-near text-past patternOf oneWord anyBut occursIn wordIn fitsIn gap span sentenceIn within each unbroken takes member
+unfolding pattern-near text-past patternOf oneWord anyBut occursIn wordIn placeFitsIn gap gapFits span sentenceIn within each unbroken takes member
 past-not o = true≢false (sym (occurs-iff pattern-near (plain pattern-near text-past) (1 ∷ 3 ∷ []) .1 o))
 
 hits-every : occurrences pattern-every text-every ≡ (1 ∷ []) ∷ (2 ∷ []) ∷ (4 ∷ []) ∷ []
@@ -96,7 +96,7 @@ unfolding pattern-every text-every patternOf anyBut inputVerdict patternVerdict 
 every = results hits-every refl refl refl refl refl
 
 every-not : Occurs pattern-every text-every (3 ∷ []) → ⊥
-unfolding pattern-every text-every patternOf anyBut occursIn wordIn fitsIn gap span sentenceIn within each unbroken takes member
+unfolding pattern-every text-every patternOf anyBut occursIn wordIn placeFitsIn gap gapFits span sentenceIn within each unbroken takes member
 every-not o = true≢false (sym (occurs-iff pattern-every (plain pattern-every text-every) (3 ∷ []) .1 o))
 
 hits-sentence : occurrences pattern-in-a-row text-sentence ≡ (2 ∷ 3 ∷ 4 ∷ []) ∷ []
@@ -112,7 +112,7 @@ unfolding pattern-in-a-row text-sentence patternOf anyBut inputVerdict patternVe
 sentence = results hits-sentence refl refl refl refl refl
 
 sentence-not : Occurs pattern-in-a-row text-sentence (3 ∷ 4 ∷ 5 ∷ []) → ⊥
-unfolding pattern-in-a-row text-sentence patternOf anyBut occursIn wordIn fitsIn gap span sentenceIn within each unbroken takes member
+unfolding pattern-in-a-row text-sentence patternOf anyBut occursIn wordIn placeFitsIn gap gapFits span sentenceIn within each unbroken takes member
 sentence-not o = true≢false (sym (occurs-iff pattern-in-a-row (plain pattern-in-a-row text-sentence) (3 ∷ 4 ∷ 5 ∷ []) .1 o))
 
 hits-without : occurrences pattern-without-b text-fitting ≡ []
@@ -124,7 +124,7 @@ unfolding pattern-without-b text-fitting patternOf oneWord anyBut inputVerdict p
 without = results hits-without refl refl refl refl refl
 
 without-not : Occurs pattern-without-b text-fitting (1 ∷ 2 ∷ 3 ∷ []) → ⊥
-unfolding pattern-without-b text-fitting patternOf oneWord anyBut occursIn wordIn fitsIn gap span sentenceIn within each unbroken takes member
+unfolding pattern-without-b text-fitting patternOf oneWord anyBut occursIn wordIn placeFitsIn gap gapFits span sentenceIn within each unbroken takes member
 without-not o = true≢false (sym (occurs-iff pattern-without-b (plain pattern-without-b text-fitting) (1 ∷ 2 ∷ 3 ∷ []) .1 o))
 
 hits-spared : occurrences pattern-without-x text-fitting ≡ (1 ∷ 2 ∷ 3 ∷ []) ∷ []

@@ -4,10 +4,10 @@ use native.Mathlib.Decide.{ℕ-discrete, decLt}
 use native.Mathlib.Omega.{arith}
 use mathlib.Core.Path.{_≡_}
 use mathlib.Core.List.{List}
-use mathlib.Core.Bool.{true, false}
+use mathlib.Core.Bool.{false}
 use lib.ListN.{length}
 use Rattle.pattern.specs.declared.Pattern.{Pattern}
-use Rattle.matching.specs.Occurrence.{View, FitsIn, OccursIn, at}
+use Rattle.matching.specs.Occurrence.{View, PlaceFitsIn, OccursIn, at}
 use Rattle.pattern.specs.Patterns.{slotAt}
 use Rattle.matching.specs.Rows.{meet, join}
 use Rattle.matching.specs.Laws.Rows.{Sublattice, at-meet, at-join, length-meet, length-join}
@@ -64,7 +64,7 @@ module _ (f : Pattern) (v : View) where
       → (r s : List ℕ) → OccursIn f v r → OccursIn f v s → OccursIn f v (mix r s)
   occurs-mix mix closed r s o o′ = record {
     size = closed _ (size-sublattice (f .count)) r s (o .size) (o′ .size);
-    word = λ j h. closed _ (place-sublattice (FitsIn v j) j) r s (o .word j h) (o′ .word j h);
+    word = λ j h. closed _ (place-sublattice (PlaceFitsIn v j) j) r s (o .word j h) (o′ .word j h);
     gap = λ j h. closed _ (gap-sublattice j (j + 1) (slotAt f (j + 1) .low) (slotAt f (j + 1) .high)) r s (o .gap j h) (o′ .gap j h);
     span = closed _ (span-sublattice 0 (f .count - 1) (f .least) (f .most)) r s (o .span) (o′ .span);
     sentence = closed _ (between-sublattice (λ p. v .ends p ≡ false) 0 (f .count - 1)) r s (o .sentence) (o′ .sentence);

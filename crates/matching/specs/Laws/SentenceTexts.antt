@@ -10,7 +10,7 @@ use Rattle.pattern.specs.Patterns.{member, takes}
 use Rattle.pattern.specs.Words.{rises}
 use Rattle.pattern.specs.Tests.{slotVerdict, slotsVerdict, spanVerdict, limitsVerdict, patternVerdict, inputVerdict}
 use Rattle.matching.specs.Occurrence.{plain, Occurs}
-use Rattle.matching.specs.Occurrences.{within, each, unbroken, fitsIn, wordIn, gap, span, sentenceIn, occursIn, places, occurrences}
+use Rattle.matching.specs.Occurrences.{within, each, unbroken, placeFitsIn, wordIn, gapFits, gap, span, sentenceIn, occursIn, places, occurrences}
 use Rattle.matching.specs.Rows.{before, meet, join}
 use Rattle.matching.specs.Searches.{nearest, extreme, earliestOf, latestOf}
 use Rattle.matching.specs.Lists.{onward, follow}
@@ -32,7 +32,7 @@ unfolding pattern-pair text-parted patternOf oneWord inputVerdict patternVerdict
 parted = results hits-parted refl refl refl refl refl
 
 parted-not : Occurs pattern-pair text-parted (2 ∷ 4 ∷ []) → ⊥
-unfolding pattern-pair text-parted patternOf oneWord occursIn wordIn fitsIn gap span sentenceIn within each unbroken takes member
+unfolding pattern-pair text-parted patternOf oneWord occursIn wordIn placeFitsIn gap gapFits span sentenceIn within each unbroken takes member
 parted-not o = true≢false (sym (occurs-iff pattern-pair (plain pattern-pair text-parted) (2 ∷ 4 ∷ []) .1 o))
 
 hits-whole : occurrences pattern-pair text-whole ≡ (2 ∷ 3 ∷ []) ∷ []
@@ -56,7 +56,7 @@ unfolding pattern-pair text-after-first patternOf oneWord inputVerdict patternVe
 after-first = results hits-after-first refl refl refl refl refl
 
 after-first-not : Occurs pattern-pair text-after-first (1 ∷ 4 ∷ []) → ⊥
-unfolding pattern-pair text-after-first patternOf oneWord occursIn wordIn fitsIn gap span sentenceIn within each unbroken takes member
+unfolding pattern-pair text-after-first patternOf oneWord occursIn wordIn placeFitsIn gap gapFits span sentenceIn within each unbroken takes member
 after-first-not o = true≢false (sym (occurs-iff pattern-pair (plain pattern-pair text-after-first) (1 ∷ 4 ∷ []) .1 o))
 
 hits-before-last : occurrences pattern-pair text-before-last ≡ []
@@ -68,7 +68,7 @@ unfolding pattern-pair text-before-last patternOf oneWord inputVerdict patternVe
 before-last = results hits-before-last refl refl refl refl refl
 
 before-last-not : Occurs pattern-pair text-before-last (1 ∷ 4 ∷ []) → ⊥
-unfolding pattern-pair text-before-last patternOf oneWord occursIn wordIn fitsIn gap span sentenceIn within each unbroken takes member
+unfolding pattern-pair text-before-last patternOf oneWord occursIn wordIn placeFitsIn gap gapFits span sentenceIn within each unbroken takes member
 before-last-not o = true≢false (sym (occurs-iff pattern-pair (plain pattern-pair text-before-last) (1 ∷ 4 ∷ []) .1 o))
 
 hits-two-stops : occurrences pattern-pair text-two-stops ≡ []
@@ -80,7 +80,7 @@ unfolding pattern-pair text-two-stops patternOf oneWord inputVerdict patternVerd
 two-stops = results hits-two-stops refl refl refl refl refl
 
 two-stops-not : Occurs pattern-pair text-two-stops (1 ∷ 5 ∷ []) → ⊥
-unfolding pattern-pair text-two-stops patternOf oneWord occursIn wordIn fitsIn gap span sentenceIn within each unbroken takes member
+unfolding pattern-pair text-two-stops patternOf oneWord occursIn wordIn placeFitsIn gap gapFits span sentenceIn within each unbroken takes member
 two-stops-not o = true≢false (sym (occurs-iff pattern-pair (plain pattern-pair text-two-stops) (1 ∷ 5 ∷ []) .1 o))
 
 hits-empty-sentence : occurrences pattern-pair text-empty-sentence ≡ (4 ∷ 5 ∷ []) ∷ []
@@ -96,7 +96,7 @@ unfolding pattern-pair text-empty-sentence patternOf oneWord inputVerdict patter
 empty-sentence = results hits-empty-sentence refl refl refl refl refl
 
 empty-sentence-not : Occurs pattern-pair text-empty-sentence (1 ∷ 5 ∷ []) → ⊥
-unfolding pattern-pair text-empty-sentence patternOf oneWord occursIn wordIn fitsIn gap span sentenceIn within each unbroken takes member
+unfolding pattern-pair text-empty-sentence patternOf oneWord occursIn wordIn placeFitsIn gap gapFits span sentenceIn within each unbroken takes member
 empty-sentence-not o = true≢false (sym (occurs-iff pattern-pair (plain pattern-pair text-empty-sentence) (1 ∷ 5 ∷ []) .1 o))
 
 hits-outside : occurrences pattern-pair text-outside ≡ (2 ∷ 4 ∷ []) ∷ []
@@ -124,7 +124,7 @@ unfolding pattern-pair text-later patternOf oneWord inputVerdict patternVerdict 
 later = results hits-later refl refl refl refl refl
 
 later-not : Occurs pattern-pair text-later (1 ∷ 4 ∷ []) → ⊥
-unfolding pattern-pair text-later patternOf oneWord occursIn wordIn fitsIn gap span sentenceIn within each unbroken takes member
+unfolding pattern-pair text-later patternOf oneWord occursIn wordIn placeFitsIn gap gapFits span sentenceIn within each unbroken takes member
 later-not o = true≢false (sym (occurs-iff pattern-pair (plain pattern-pair text-later) (1 ∷ 4 ∷ []) .1 o))
 
 hits-later-open : occurrences pattern-pair text-later-open ≡ (1 ∷ 4 ∷ []) ∷ (3 ∷ 4 ∷ []) ∷ []
@@ -152,7 +152,7 @@ unfolding pattern-triple text-several patternOf oneWord inputVerdict patternVerd
 several = results hits-several refl refl refl refl refl
 
 several-not : Occurs pattern-triple text-several (2 ∷ 4 ∷ 7 ∷ []) → ⊥
-unfolding pattern-triple text-several patternOf oneWord occursIn wordIn fitsIn gap span sentenceIn within each unbroken takes member
+unfolding pattern-triple text-several patternOf oneWord occursIn wordIn placeFitsIn gap gapFits span sentenceIn within each unbroken takes member
 several-not o = true≢false (sym (occurs-iff pattern-triple (plain pattern-triple text-several) (2 ∷ 4 ∷ 7 ∷ []) .1 o))
 
 hits-several-open : occurrences pattern-triple text-several-open ≡ (1 ∷ 3 ∷ 5 ∷ []) ∷ (1 ∷ 4 ∷ 5 ∷ []) ∷ (1 ∷ 4 ∷ 7 ∷ []) ∷ (2 ∷ 3 ∷ 5 ∷ []) ∷ (2 ∷ 4 ∷ 5 ∷ []) ∷ (2 ∷ 4 ∷ 7 ∷ []) ∷ (9 ∷ 10 ∷ 11 ∷ []) ∷ []
@@ -180,7 +180,7 @@ unfolding pattern-spanned text-spanned patternOf oneWord inputVerdict patternVer
 spanned = results hits-spanned refl refl refl refl refl
 
 spanned-not : Occurs pattern-spanned text-spanned (10 ∷ 11 ∷ 13 ∷ []) → ⊥
-unfolding pattern-spanned text-spanned patternOf oneWord occursIn wordIn fitsIn gap span sentenceIn within each unbroken takes member
+unfolding pattern-spanned text-spanned patternOf oneWord occursIn wordIn placeFitsIn gap gapFits span sentenceIn within each unbroken takes member
 spanned-not o = true≢false (sym (occurs-iff pattern-spanned (plain pattern-spanned text-spanned) (10 ∷ 11 ∷ 13 ∷ []) .1 o))
 
 hits-inner : occurrences pattern-inner text-inner ≡ (5 ∷ 6 ∷ 7 ∷ 8 ∷ []) ∷ []
@@ -196,7 +196,7 @@ unfolding pattern-inner text-inner patternOf oneWord inputVerdict patternVerdict
 inner = results hits-inner refl refl refl refl refl
 
 inner-not : Occurs pattern-inner text-inner (1 ∷ 2 ∷ 4 ∷ 5 ∷ []) → ⊥
-unfolding pattern-inner text-inner patternOf oneWord occursIn wordIn fitsIn gap span sentenceIn within each unbroken takes member
+unfolding pattern-inner text-inner patternOf oneWord occursIn wordIn placeFitsIn gap gapFits span sentenceIn within each unbroken takes member
 inner-not o = true≢false (sym (occurs-iff pattern-inner (plain pattern-inner text-inner) (1 ∷ 2 ∷ 4 ∷ 5 ∷ []) .1 o))
 
 hits-single : occurrences pattern-single text-single ≡ (2 ∷ []) ∷ (4 ∷ []) ∷ (5 ∷ []) ∷ []

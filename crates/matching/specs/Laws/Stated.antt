@@ -7,14 +7,13 @@ use mathlib.Core.List.{List}
 use lib.ListN.{length}
 use Rattle.pattern.specs.declared.Pattern.{Pattern}
 use Rattle.pattern.specs.declared.refusal.Verdict.{Verdict}
-use Rattle.pattern.specs.Patterns.{slotAt}
 use Rattle.pattern.specs.Tests.{inputVerdict}
 use Rattle.pattern.specs.Stated.{SameStated}
 use Rattle.pattern.specs.Agree.{Agree}
 use Rattle.pattern.specs.Laws.Stated.{input-same}
 use Rattle.pattern.specs.Laws.Agree.{agree-takes, same-agree}
 use Rattle.matching.specs.Occurrence.{View, plain, at, wordAt}
-use Rattle.matching.specs.Occurrences.{within, fitsIn, wordIn, gap, span, sentenceIn, occursIn, occurs, occurrencesIn, occurrences}
+use Rattle.matching.specs.Occurrences.{placeFitsIn, wordIn, gapFits, gap, span, sentenceIn, occursIn, occurs, occurrencesIn, occurrences}
 use Rattle.matching.specs.Lists.{leftmostIn, rightmostIn, leftmost, rightmost}
 use Rattle.matching.specs.Answers.{rowVerdict, firstAfter, lastBefore, listed, filled, frontListed, frontWritten, backListed, backWritten, counted}
 use Rattle.matching.specs.Laws.Tests.{each-same}
@@ -30,12 +29,9 @@ module _ {f g : Pattern} (agree : Agree f g) where
   plain-same t = record { places = refl; fits = λ j h p. agree-takes (agree .slot j h) (wordAt t p); ends = λ p. refl }
 
   gap-same : (r : List ℕ) → gap f r ≡ gap g r
-  unfolding gap
+  unfolding gap gapFits
   gap-same r =
-      let gaps = each-same (f .count - 1)
-      (λ j. within (at r j + slotAt f (j + 1) .low + 1) (at r (j + 1)) (at r j + slotAt f (j + 1) .high + 1))
-      (λ j. within (at r j + slotAt g (j + 1) .low + 1) (at r (j + 1)) (at r j + slotAt g (j + 1) .high + 1))
-      (λ j h. rw (agree .slot (j + 1) (omega arith) .low, agree .slot (j + 1) (omega arith) .high)) in
+      let gaps = each-same (f .count - 1) (gapFits f r) (gapFits g r) (λ j h. rw (agree .slot (j + 1) (omega arith) .low, agree .slot (j + 1) (omega arith) .high)) in
       rw (gaps, agree .count)
 
   span-same : (r : List ℕ) → span f r ≡ span g r
@@ -44,9 +40,9 @@ module _ {f g : Pattern} (agree : Agree f g) where
 
   module _ {v w : View} (alike : SameView (f .count) v w) where
     word-same : (r : List ℕ) → wordIn f v r ≡ wordIn g w r
-    unfolding wordIn fitsIn
+    unfolding wordIn placeFitsIn
     word-same r =
-        let fits = each-same (f .count) (λ j. fitsIn v j (at r j)) (λ j. fitsIn w j (at r j)) (λ j h. rw (alike .places, alike .fits j h (at r j))) in
+        let fits = each-same (f .count) (λ j. placeFitsIn v j (at r j)) (λ j. placeFitsIn w j (at r j)) (λ j h. rw (alike .places, alike .fits j h (at r j))) in
         rw (fits, agree .count)
 
     sentence-same : (r : List ℕ) → sentenceIn f v r ≡ sentenceIn g w r

@@ -9,8 +9,8 @@ use lib.Dec.{leb, ltb, eqb}
 use borrow.Author.Count.{below-more}
 use borrow.Author.Tests.{leb-true, le-leb, ltb-true, lt-ltb, eqb-true, eq-eqb, not-true}
 use Rattle.pattern.specs.declared.Pattern.{Pattern}
-use Rattle.matching.specs.Occurrence.{View, Unbroken, at, FitsIn, WordIn, Gap, Span, SentenceIn, OccursIn}
-use Rattle.matching.specs.Occurrences.{within, each, unbroken, fitsIn, wordIn, gap, span, sentenceIn, occursIn}
+use Rattle.matching.specs.Occurrence.{View, Unbroken, at, PlaceFitsIn, WordIn, Gap, Span, SentenceIn, OccursIn}
+use Rattle.matching.specs.Occurrences.{within, each, unbroken, placeFitsIn, wordIn, gapFits, gap, span, sentenceIn, occursIn}
 use Rattle.matching.specs.Rows.{Before, before}
 
 pub within-iff : (low x high : ℕ) → (within low x high ≡ true) ↔ ((low ≤ x) × (x ≤ high))
@@ -46,9 +46,9 @@ unbroken-iff ends p q = (
 
 -- ---- an occurrence, condition by condition
 
-pub fits-iff : (v : View) (j place : ℕ) → (fitsIn v j place ≡ true) ↔ FitsIn v j place
-unfolding fitsIn
-fits-iff v j place = (
+place-iff : (v : View) (j place : ℕ) → (placeFitsIn v j place ≡ true) ↔ PlaceFitsIn v j place
+unfolding placeFitsIn
+place-iff v j place = (
   λ e. let b = simp (and-eq-true-iff, within-iff) at e in record { inside = b .0; fit = b .1 },
   λ w. simp (and-eq-true-iff, within-iff) (w .inside, w .fit),
 )
@@ -56,10 +56,10 @@ fits-iff v j place = (
 module _ (f : Pattern) where
   pub word-iff : (v : View) (r : List ℕ) → (wordIn f v r ≡ true) ↔ WordIn f v r
   unfolding wordIn
-  word-iff v r = (λ e. simp (each-iff, fits-iff) at e, λ w. simp (each-iff, fits-iff) w)
+  word-iff v r = (λ e. simp (each-iff, place-iff) at e, λ w. simp (each-iff, place-iff) w)
 
   pub gap-iff : (r : List ℕ) → (gap f r ≡ true) ↔ Gap f r
-  unfolding gap
+  unfolding gap gapFits
   gap-iff r = (λ e j h. (simp (each-iff, within-iff) at e) j (omega arith), λ g. simp (each-iff, within-iff) (λ j h. g j (omega arith)))
 
   pub span-iff : (r : List ℕ) → (span f r ≡ true) ↔ Span f r
@@ -70,13 +70,14 @@ module _ (f : Pattern) where
   unfolding sentenceIn
   sentence-iff v r = unbroken-iff (v .ends) (at r 0) (at r (f .count - 1))
 
-  pub occurs-iff : (v : View) (r : List ℕ) → (occursIn f v r ≡ true) ↔ OccursIn f v r
-  unfolding occursIn
-  occurs-iff v r = (
-    λ e. let o = simp (and-eq-true-iff, eqb-iff, word-iff, gap-iff, span-iff, sentence-iff) at e in
-        record { size = o .0 .0 .0 .0; word = o .0 .0 .0 .1; gap = o .0 .0 .1; span = o .0 .1; sentence = o .1 },
-    λ o. simp (and-eq-true-iff, eqb-iff, word-iff, gap-iff, span-iff, sentence-iff) ((((o .size, o .word), o .gap), o .span), o .sentence),
-  )
+ruleset conditions = (and-eq-true-iff, eqb-iff, word-iff, gap-iff, span-iff, sentence-iff)
+
+pub occurs-iff : (f : Pattern) (v : View) (r : List ℕ) → (occursIn f v r ≡ true) ↔ OccursIn f v r
+unfolding occursIn
+occurs-iff f v r = (
+  λ e. let o = simp conditions at e in record { size = o .0 .0 .0 .0; word = o .0 .0 .0 .1; gap = o .0 .0 .1; span = o .0 .1; sentence = o .1 },
+  λ o. simp conditions ((((o .size, o .word), o .gap), o .span), o .sentence),
+)
 
 ltb-iff : (a b : ℕ) → (ltb a b ≡ true) ↔ (a < b)
 ltb-iff a b = (ltb-true a b, lt-ltb a b)

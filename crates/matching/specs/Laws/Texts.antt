@@ -15,7 +15,7 @@ use Rattle.pattern.specs.Accepted.{Accepted}
 use Rattle.pattern.specs.Laws.Accepting.{input-accepted}
 use Rattle.matching.specs.Occurrence.{plain, Occurs}
 use Rattle.basics.specs.Collections.{keep, select}
-use Rattle.matching.specs.Occurrences.{within, each, fitsIn, wordIn, gap, span, sentenceIn, occursIn, places, occurrences}
+use Rattle.matching.specs.Occurrences.{within, each, placeFitsIn, wordIn, gapFits, gap, span, occursIn, places, occurrences}
 use Rattle.matching.specs.Rows.{level, before, meet, join}
 use Rattle.matching.specs.Searches.{nearest, extreme, earliestOf, latestOf}
 use Rattle.matching.specs.Lists.{onward, follow, leftmostIn, rightmostIn}
@@ -147,7 +147,7 @@ unfolding pattern-eight text-eight patternOf oneWord inputVerdict patternVerdict
 eight = results hits-eight refl refl refl refl refl
 
 two-not : Occurs pattern-two text-one (6 ∷ 7 ∷ 8 ∷ []) → ⊥
-unfolding pattern-two text-one patternOf oneWord occursIn wordIn fitsIn gap span sentenceIn within each takes member
+unfolding pattern-two text-one patternOf oneWord occursIn wordIn placeFitsIn gap gapFits span within each takes member
 two-not o = true≢false (sym (occurs-iff pattern-two (plain pattern-two text-one) (6 ∷ 7 ∷ 8 ∷ []) .1 o))
 
 nowhere : (f : Pattern) → 1 ≤ f .count → (r : List ℕ) → Occurs f [] r → ⊥

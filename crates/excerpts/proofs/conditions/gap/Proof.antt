@@ -1,17 +1,18 @@
--- `gap` meets its contract. The invariant: each gap before slot j + 1 has low to high words.
+-- `gap` meets its contract. The invariant: each gap up to the one before slot j has low to high words.
 use native.Mathlib.Omega.{arith}
-use Prim.Native.Nat.{ℕ, _+_, _≤_, _<_, _-_}
+use Prim.Native.Nat.{ℕ, _≤_, _<_, _-_}
 use mathlib.Core.Bool.{Bool, true}
 use mathlib.Core.Path.{_≡_, sym, _∙_}
 use borrow.Author.Count.{below-none, below-more}
 use borrow.Author.Tests.{not-true, not-false}
-use Rattle.excerpts.proofs.Placewise.{spaced, gap-holds, gap-fails}
+use Rattle.matching.specs.Occurrences.{gapFits}
+use Rattle.excerpts.proofs.Deciding.{gap-true, gap-false}
 use borrow.Author.Needs.{needs}
 use Rattle.excerpts.proofs.conditions.gap.Statement.{statement}
 use Rattle.excerpts.proofs.conditions.gap.Tie as tie
 
 abbrev Inv-loop : tie.InvT-loop
-Inv-loop row pattern m j₀ j = (j ≤ m) × ((k : ℕ) → k < j → spaced pattern row k ≡ true)
+Inv-loop row pattern m j₀ j = (j ≤ m) × ((k : ℕ) → k < j → gapFits pattern row k ≡ true)
 
 abbrev μ-loop : tie.MeasureT-loop
 μ-loop row pattern m j₀ j = m - j
@@ -40,10 +41,11 @@ abbrev loop-at : tie.After-within Inv-loop μ-loop → tie.At-loop Inv-loop μ-l
 loop-at c = test-at c .before
 
 -- whether the gap before slot k + 1 has low to high words
-abbrev fit : tie.At-loop Inv-loop μ-loop → ℕ → Bool
-fit c = spaced (start c .args .t1) (start c .args .row .now)
+abbrev fitting : tie.At-loop Inv-loop μ-loop → ℕ → Bool
+fitting c = gapFits (start c .args .t1) (start c .args .row .now)
 
-tested : (c : tie.After-within Inv-loop μ-loop) → c .within .result ≡ fit (loop-at c) (loop-at c .loop .j)
+tested : (c : tie.After-within Inv-loop μ-loop) → c .within .result ≡ fitting (loop-at c) (loop-at c .loop .j)
+unfolding gapFits
 tested c = rw (← place-at c .widen .ensures .0, ← next-at c .widen2 .ensures .0, ← low-at c .widen3 .ensures .0, ← high-at c .widen4 .ensures .0) (c .within .ensures)
 
 -- ----
@@ -108,7 +110,7 @@ within-requires c κs = search needs
 returns : tie.Need-returns Inv-loop μ-loop
 returns c =
     let b = c .before in
-    gap-fails _ _ (loop-at b .loop .j) (omega (arith, test-at b .loop-test .taken)) (sym (tested b) ∙ not-true _ (c .if1 .taken))
+    gap-false _ _ (loop-at b .loop .j) (omega (arith, test-at b .loop-test .taken)) (sym (tested b) ∙ not-true _ (c .if1 .taken))
 
 add-j : tie.Need-add-j Inv-loop μ-loop
 add-j c = search needs
@@ -119,10 +121,10 @@ loop-less c = search needs
 loop-again : tie.Need-loop-again Inv-loop μ-loop
 loop-again c =
     let l = loop-at (c .before) in
-    (search needs, below-more (λ k. fit l k ≡ true) (l .loop .j) (l .loop .inv .1) (sym (tested (c .before)) ∙ not-false _ (c .if1 .left)))
+    (search needs, below-more (λ k. fitting l k ≡ true) (l .loop .j) (l .loop .inv .1) (sym (tested (c .before)) ∙ not-false _ (c .if1 .left)))
 
 returns-2 : tie.Need-returns-2 Inv-loop μ-loop
-returns-2 c = gap-holds _ _ (λ k h. c .before .loop .inv .1 k (omega (arith, c .loop-test .left)))
+returns-2 c = gap-true _ _ (λ k h. c .before .loop .inv .1 k (omega (arith, c .loop-test .left)))
 
 pub gap-spec : {M : Type 1} → statement M
 gap-spec =

@@ -5,9 +5,9 @@ use mathlib.Core.List.{List}
 use mathlib.Core.Path.{_≡_}
 use lib.ListN.{length}
 use Rattle.pattern.specs.declared.Pattern.{Pattern}
-use Rattle.matching.specs.Occurrence.{plain, endsAt, at, FitsIn, Unbroken}
+use Rattle.matching.specs.Occurrence.{plain, endsAt, at, Unbroken}
 use Rattle.matching.specs.Laws.Tests.{word-iff}
-use Rattle.excerpts.proofs.Placewise.{sentence-holds, sentence-fails, unbroken-more}
+use Rattle.excerpts.proofs.Deciding.{sentence-true, sentence-false, unbroken-more}
 use borrow.Author.Needs.{needs}
 use Rattle.excerpts.proofs.conditions.sentence.Statement.{statement}
 use Rattle.excerpts.proofs.conditions.sentence.Tie as tie
@@ -95,7 +95,7 @@ returns : tie.Need-returns Inv-loop μ-loop
 returns c =
     let l = loop-at (c .before) in
     let k = last-at l in
-    sentence-fails (f k) (t k) (r k) (l .loop .place) (omega (arith, first-is k, l .loop .inv .0)) (omega (arith, last-is k, c .before .before .loop-test .taken)) (c .if1 .taken)
+    sentence-false (f k) (t k) (r k) (l .loop .place) (omega (arith, first-is k, l .loop .inv .0)) (omega (arith, last-is k, c .before .before .loop-test .taken)) (c .if1 .taken)
 
 add-place-2 : tie.Need-add-place-2 Inv-loop μ-loop
 add-place-2 c = search needs
@@ -112,7 +112,7 @@ returns-2 : tie.Need-returns-2 Inv-loop μ-loop
 returns-2 c =
     let l = c .before in
     let k = last-at l in
-    sentence-holds (f k) (t k) (r k) (λ x a b. l .loop .inv .1 x (omega (arith, first-is k)) (omega (arith, last-is k, c .loop-test .left)))
+    sentence-true (f k) (t k) (r k) (λ x a b. l .loop .inv .1 x (omega (arith, first-is k)) (omega (arith, last-is k, c .loop-test .left)))
 
 pub sentence-spec : {M : Type 1} → statement M
 sentence-spec =

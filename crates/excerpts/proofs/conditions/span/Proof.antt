@@ -1,5 +1,5 @@
--- `span` meets its contract: the two are the same numbers, widened.
-use Rattle.excerpts.proofs.Placewise.{span-by}
+-- `span` meets its contract: it compares the numbers that the condition compares, widened.
+use Rattle.excerpts.proofs.Deciding.{span-by}
 use borrow.Author.Needs.{needs}
 use Rattle.excerpts.proofs.conditions.span.Statement.{statement}
 use Rattle.excerpts.proofs.conditions.span.Tie as tie

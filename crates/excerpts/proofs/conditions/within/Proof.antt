@@ -1,7 +1,6 @@
 -- `within` meets its contract: both are the same two comparisons.
 use borrow.Author.Tests.{le-leb, lt-leb}
 use Rattle.matching.specs.Occurrences.{within}
-use borrow.Author.Needs.{needs}
 use Rattle.excerpts.proofs.conditions.within.Statement.{statement}
 use Rattle.excerpts.proofs.conditions.within.Tie as tie
 

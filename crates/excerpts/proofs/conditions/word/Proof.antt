@@ -7,7 +7,7 @@ use mathlib.Core.Path.{_≡_, sym, _∙_}
 use borrow.Author.Count.{below-none, below-more}
 use borrow.Author.Tests.{not-true, not-false}
 use Rattle.pattern.specs.declared.Pattern.{Pattern}
-use Rattle.excerpts.proofs.Placewise.{fitting, fits-at, word-holds, word-fails}
+use Rattle.excerpts.proofs.Deciding.{fitting, fitting-by, word-true, word-false}
 use borrow.Author.Needs.{needs}
 use Rattle.excerpts.proofs.conditions.word.Statement.{statement}
 use Rattle.excerpts.proofs.conditions.word.Tie as tie
@@ -23,10 +23,10 @@ abbrev μ-loop : tie.MeasureT-loop
 abbrev start : tie.At-loop Inv-loop μ-loop → tie.Start Inv-loop μ-loop
 start c = c .before .before .before
 
-abbrev test-at : tie.After-fits2 Inv-loop μ-loop → tie.In-loop Inv-loop μ-loop
+abbrev test-at : tie.After-place-fits Inv-loop μ-loop → tie.In-loop Inv-loop μ-loop
 test-at c = c .before .before .before .before
 
-abbrev loop-at : tie.After-fits2 Inv-loop μ-loop → tie.At-loop Inv-loop μ-loop
+abbrev loop-at : tie.After-place-fits Inv-loop μ-loop → tie.At-loop Inv-loop μ-loop
 loop-at c = test-at c .before
 
 -- ---- the pattern, the text and the row; and whether the place of slot j fits it
@@ -43,9 +43,10 @@ r c = start c .args .row .now
 abbrev fit : tie.At-loop Inv-loop μ-loop → ℕ → Bool
 fit c = fitting (f c) (t c) (r c)
 
-tested : (c : tie.After-fits2 Inv-loop μ-loop) → c .fits2 .result ≡ fit (loop-at c) (loop-at c .loop .j)
+tested : (c : tie.After-place-fits Inv-loop μ-loop) → c .place-fits .result ≡ fit (loop-at c) (loop-at c .loop .j)
 tested c =
-    let l = loop-at c in fits-at (f l) (t l) (r l) (l .loop .j) (c .before .widen .ensures .0) (c .fits2 .ensures)
+    let l = loop-at c in
+    fitting-by (f l) (t l) (r l) (l .loop .j) (c .before .widen .ensures .0) (c .place-fits .ensures)
 
 -- ----
 
@@ -67,14 +68,14 @@ shared-slice-read-widen c = search needs
 widen-requires : tie.Need-widen-requires Inv-loop μ-loop
 widen-requires c κs = search needs
 
-fits-requires : tie.Need-fits-requires Inv-loop μ-loop
-fits-requires c κs = search needs
+place-fits-requires : tie.Need-place-fits-requires Inv-loop μ-loop
+place-fits-requires c κs = search needs
 
 returns : tie.Need-returns Inv-loop μ-loop
 returns c =
     let b = c .before in
     let l = loop-at b in
-    word-fails (f l) (t l) (r l) (l .loop .j) (test-at b .loop-test .taken) (sym (tested b) ∙ not-true _ (c .if1 .taken))
+    word-false (f l) (t l) (r l) (l .loop .j) (test-at b .loop-test .taken) (sym (tested b) ∙ not-true _ (c .if1 .taken))
 
 add-j : tie.Need-add-j Inv-loop μ-loop
 add-j c = search needs
@@ -90,7 +91,7 @@ loop-again c =
 returns-2 : tie.Need-returns-2 Inv-loop μ-loop
 returns-2 c =
     let l = c .before in
-    word-holds (f l) (t l) (r l) (λ k h. l .loop .inv .1 k (omega (arith, c .loop-test .left)))
+    word-true (f l) (t l) (r l) (λ k h. l .loop .inv .1 k (omega (arith, c .loop-test .left)))
 
 pub word-spec : {M : Type 1} → statement M
 word-spec =
@@ -104,7 +105,7 @@ word-spec =
     mul-widen
     shared-slice-read-widen
     widen-requires
-    fits-requires
+    place-fits-requires
     returns
     add-j
     loop-less

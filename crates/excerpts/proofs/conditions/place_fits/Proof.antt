@@ -1,19 +1,31 @@
--- `fits` meets its contract: the word is looked at only where the place is in the text.
+-- `place_fits` meets its contract: the word is looked at only where the place is in the text.
 use Prim.Native.Nat.{_≤_}
 use native.Mathlib.Omega.{arith}
-use mathlib.Core.Path.{sym, _∙_}
+use mathlib.Core.Bool.{true}
+use mathlib.Core.Path.{_≡_, sym, _∙_}
 use lib.ListN.{length}
+use Rattle.matching.specs.Occurrences.{within}
 use Rattle.matching.specs.Laws.Tests.{within-iff}
 use borrow.Author.Needs.{needs}
-use Rattle.excerpts.proofs.conditions.fits.Statement.{statement}
-use Rattle.excerpts.proofs.conditions.fits.Tie as tie
+use Rattle.excerpts.proofs.conditions.place_fits.Statement.{statement}
+use Rattle.excerpts.proofs.conditions.place_fits.Tie as tie
+
+-- ---- the places of the body
 
 abbrev start : tie.Then1 → tie.Start
 start c = c .before .before .before
 
--- the place is in the text
+abbrev then-at : tie.After-takes → tie.Then1
+then-at c = c .before .before
+
+-- where the place is in the text
+within-is : (c : tie.Then1) → within 1 (start c .args .place) (length (start c .args .text .now)) ≡ true
+within-is c = sym (c .before .within .ensures) ∙ c .if1 .taken
+
 in-text : (c : tie.Then1) → (1 ≤ start c .args .place) × (start c .args .place ≤ length (start c .args .text .now))
-in-text c = within-iff _ _ _ .0 (sym (c .before .within .ensures) ∙ c .if1 .taken)
+in-text c = within-iff _ _ _ .0 (within-is c)
+
+-- ----
 
 within-requires : tie.Need-within-requires
 within-requires c κs = search needs
@@ -31,13 +43,13 @@ takes-requires : tie.Need-takes-requires
 takes-requires c κs = search needs
 
 returns : tie.Need-returns
-returns c = simp (sym (c .before .before .before .within .ensures) ∙ c .before .before .if1 .taken) (c .takes .ensures)
+returns c = simp (within-is (then-at c)) (c .takes .ensures)
 
 returns-2 : tie.Need-returns-2
 returns-2 c = simp (sym (c .before .within .ensures) ∙ c .if1 .left) (c .if1 .left)
 
-pub fits-spec : {M : Type 1} → statement M
-fits-spec =
+pub place-fits-spec : {M : Type 1} → statement M
+place-fits-spec =
     tie.close
     (tie.spec
     within-requires
