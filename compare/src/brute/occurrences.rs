@@ -38,7 +38,17 @@ impl Condition {
 
     /// The condition's name.
     pub fn name(self) -> &'static str {
-        ["word", "gap", "span", "sentence"][self as usize]
+        match self {
+            Condition::Word => "word",
+            Condition::Gap => "gap",
+            Condition::Span => "span",
+            Condition::Sentence => "sentence",
+        }
+    }
+
+    /// The set of this condition alone.
+    pub fn alone(self) -> [bool; 4] {
+        Condition::ALL.map(|condition| condition == self)
     }
 
     /// Whether the row keeps the condition.

@@ -1,5 +1,6 @@
 //! The conditions of an occurrence in the brute force: rows written down by hand with what they fail, and any rows.
 
+use super::occurrences::occurrences;
 use super::*;
 use crate::cases::conditions::{CONDITION_TEXT, FAIL_ALONE, OCCURRENCE};
 use crate::cases::pattern;
@@ -9,22 +10,14 @@ use crate::cases::small::{patterns, texts, tuples};
 use crate::cases::Words::{But, Only};
 use crate::rng::Rng;
 
-/// The set of this condition alone.
-fn alone(condition: Condition) -> [bool; 4] {
-    Condition::ALL.map(|other| other == condition)
-}
-
 /// The worked text: the row that is its only occurrence, and for each condition the row that fails it alone.
 #[test]
 fn each_fails_alone() {
     let (pattern, text) = (pattern(CONDITION_TEXT.span, CONDITION_TEXT.slots), CONDITION_TEXT.text);
-    assert_eq!(text, [1, 2, 6, 2, 2, 1, 0, 2]);
     for (condition, row) in Condition::ALL.into_iter().zip(FAIL_ALONE) {
-        assert_eq!(failed(&pattern, text, row), alone(condition), "{row:?}");
+        assert_eq!(failed(&pattern, text, row), condition.alone(), "{row:?}");
     }
     assert_eq!(failed(&pattern, text, OCCURRENCE), [false; 4]);
-    let brute = Brute::enumerated(&pattern, text);
-    assert_eq!([brute.support().value, brute.tally().value], [1, 1]);
 }
 
 /// A row for each of the sixteen sets of conditions, in one text.
@@ -84,20 +77,32 @@ fn any_places() {
     }
 }
 
-/// A row is an occurrence exactly if it fails none; a row of one slot fails neither the gap nor the sentence.
+/// A row fails none exactly if the walk finds it; a row of one slot fails neither the gap nor the sentence.
 #[test]
 fn all_conditions_together() {
     let (sets, gaps, spans) = ([Only(&[1]), But(&[1])], [(0, 1), (1, 2)], [(2, 3), (1, 20_000)]);
     for slots in 1..=3 {
         for pattern in patterns(slots, &sets, &gaps, &spans) {
-            for text in texts(&[0, 1, 2], 3) {
-                for row in tuples(&[0, 1, 2, 3, 4, 20_000, 65_535], slots) {
+            for text in texts(&[0, 1, 2], 4) {
+                let rows = occurrences(&pattern, &text);
+                for row in tuples(&[0, 1, 2, 3, 4, 5, 20_000, 65_535], slots) {
                     let failed = failed(&pattern, &text, &row);
-                    assert_eq!(is_occurrence(&pattern, &text, &row), failed == [false; 4]);
+                    assert_eq!(failed == [false; 4], rows.contains(&row));
                     assert!(slots > 1 || [failed[1], failed[3]] == [false; 2]);
                 }
             }
         }
+    }
+}
+
+/// Whether an occurrence can be made to fail this condition alone: the gap if it has one, the sentence if it has a word
+/// between its places, the others always.
+fn breakable(condition: Condition, row: &[u16]) -> bool {
+    let (places, span) = (row.len(), usize::from(row[row.len() - 1] - row[0] + 1));
+    match condition {
+        Condition::Word | Condition::Span => true,
+        Condition::Gap => places > 1,
+        Condition::Sentence => span > places,
     }
 }
 
@@ -111,8 +116,10 @@ fn broken_and_lifted() {
         let occurrence = any_occurrence(&mut rng, &kind);
         assert_eq!(fails(&occurrence), Ok([false; 4]));
         for condition in Condition::ALL {
-            if let Some(changed) = broken(&mut rng, condition, &occurrence) {
-                assert_eq!(fails(&changed), Ok(alone(condition)));
+            let changed = broken(&mut rng, condition, &occurrence);
+            assert_eq!(changed.is_some(), breakable(condition, &occurrence.row), "{condition:?} {occurrence:?}");
+            if let Some(changed) = changed {
+                assert_eq!(fails(&changed), Ok(condition.alone()));
                 let lifted = lifted(condition, changed).expect("its places and gaps are within the limits");
                 assert_eq!(fails(&lifted), Ok([false; 4]));
             }

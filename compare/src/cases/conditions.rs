@@ -1,4 +1,5 @@
-//! A text with a row for each of the four conditions that fails it alone, found by hand.
+//! A text with a row for each of the four conditions that fails it alone, found by hand; the program `worked_cases`
+//! runs it, too. Its x is the word 6 (`worked::X` is another).
 
 use super::worked::{listed, Worked, A, B, STOP};
 use super::Words::Only;

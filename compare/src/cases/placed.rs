@@ -16,7 +16,7 @@ pub struct Placed {
 
 impl Placed {
     /// The first place and the last.
-    fn ends(&self) -> (u16, u16) {
+    fn first_and_last(&self) -> (u16, u16) {
         (self.row[0], self.row[self.row.len() - 1])
     }
 }
@@ -82,7 +82,7 @@ pub fn broken(rng: &mut Rng, condition: Condition, occurrence: &Placed) -> Optio
 
 /// Moves the first place before the text or the last past it, or puts a word that the slot does not take at a place.
 fn break_word(rng: &mut Rng, placed: &mut Placed) {
-    let (first, last) = placed.ends();
+    let (first, last) = placed.first_and_last();
     let at = rng.within(0, placed.row.len() - 1);
     let place = placed.row[at] as usize;
     match (rng.within(1, 5), untaken(rng, &placed.pattern.slots[at])) {
@@ -96,7 +96,7 @@ fn break_word(rng: &mut Rng, placed: &mut Placed) {
     }
 }
 
-/// Makes a gap too narrow or too wide for its place, where the row has a gap.
+/// Puts a gap's low above what the row has there, or its high below it; none for a row of one place.
 fn break_gap(rng: &mut Rng, placed: &mut Placed) -> Option<()> {
     if placed.row.len() < 2 {
         return None;
@@ -112,9 +112,9 @@ fn break_gap(rng: &mut Rng, placed: &mut Placed) -> Option<()> {
     Some(())
 }
 
-/// Makes the span limits too narrow or too wide for the row.
+/// Puts the least span above the row's, or the most below it.
 fn break_span(rng: &mut Rng, placed: &mut Placed) {
-    let (first, last) = placed.ends();
+    let (first, last) = placed.first_and_last();
     let (span, pattern) = (last - first + 1, &mut placed.pattern);
     if span == 1 || rng.once_in(2) {
         (pattern.least, pattern.most) = (span + 1, pattern.most.max(span + 1));
@@ -125,7 +125,7 @@ fn break_span(rng: &mut Rng, placed: &mut Placed) {
 
 /// Puts a 0 strictly between the first place and the last, at a place that is not the row's, where there is one.
 fn break_sentence(rng: &mut Rng, placed: &mut Placed) -> Option<()> {
-    let (first, last) = placed.ends();
+    let (first, last) = placed.first_and_last();
     let free: Vec<u16> = (first + 1..last).filter(|place| !placed.row.contains(place)).collect();
     if free.is_empty() {
         return None;
@@ -136,6 +136,13 @@ fn break_sentence(rng: &mut Rng, placed: &mut Placed) -> Option<()> {
 
 /// A word that ends no sentence.
 const WORD: u16 = 9;
+
+/// Puts a word instead of a 0.
+fn unstop(word: &mut u16) {
+    if *word == 0 {
+        *word = WORD;
+    }
+}
 
 /// A row that fails this condition alone, with the condition lifted; none where no accepted pattern and text lift it.
 pub fn lifted(condition: Condition, mut placed: Placed) -> Option<Placed> {
@@ -148,20 +155,21 @@ pub fn lifted(condition: Condition, mut placed: Placed) -> Option<Placed> {
     Some(placed)
 }
 
-/// Makes the text reach all places, and each slot take the word at its place; a 0 there becomes one that it takes.
+/// A row that begins at 0 moves on by one, with a word put before the text. Then the text is made to reach all places,
+/// unless one is past 20,000, and each slot to take the word at its place; a 0 there becomes a word.
 fn lift_word(placed: &mut Placed) -> Option<()> {
     if placed.row[0] == 0 {
         placed.text.insert(0, WORD);
         placed.row.iter_mut().for_each(|place| *place += 1);
     }
-    let last = placed.ends().1 as usize;
+    let last = placed.first_and_last().1 as usize;
     if last > 20_000 {
         return None;
     }
     placed.text.resize(placed.text.len().max(last), WORD);
     for (slot, &place) in placed.pattern.slots.iter_mut().zip(&placed.row) {
         let word = &mut placed.text[place as usize - 1];
-        *word = if *word == 0 { WORD } else { *word };
+        unstop(word);
         *slot = taking(slot, *word);
     }
     Some(())
@@ -189,15 +197,13 @@ fn lift_gap(placed: &mut Placed) -> Option<()> {
 
 /// Widens the span limits to what the row has.
 fn lift_span(placed: &mut Placed) {
-    let (first, last) = placed.ends();
+    let (first, last) = placed.first_and_last();
     let (span, pattern) = (last - first + 1, &mut placed.pattern);
     (pattern.least, pattern.most) = (pattern.least.min(span), pattern.most.max(span));
 }
 
 /// Puts a word instead of every 0 strictly between the first place and the last.
 fn lift_sentence(placed: &mut Placed) {
-    let (first, last) = placed.ends();
-    for word in &mut placed.text[first as usize..last as usize - 1] {
-        *word = if *word == 0 { WORD } else { *word };
-    }
+    let (first, last) = placed.first_and_last();
+    placed.text[first as usize..last as usize - 1].iter_mut().for_each(unstop);
 }

@@ -27,8 +27,11 @@ const SPANS: [(u16, u16); 6] = [ANY_SPAN, (2, 3), (4, 4), (3, 20_000), (1, 2), (
 /// So many places past the text's end are tried.
 const PAST: u16 = 2;
 
-/// Places far past the end of a small text; they are tried in one of so many texts.
-const FAR: ([u16; 2], usize) = ([20_000, 65_535], 20);
+/// Places far past the end of a small text.
+const FAR: [u16; 2] = [20_000, 65_535];
+
+/// They are tried in one of so many texts.
+const FAR_ONCE_IN: usize = 20;
 
 /// What the patterns are like whose occurrences are changed: short, wide, with many words, and with many slots.
 const KINDS: [Kind; 4] = [
@@ -75,21 +78,22 @@ fn families() -> Vec<Family> {
 fn every_row(run: &mut Run, rng: &mut Rng, pattern: &Pattern, text: &[u16]) {
     let mut both = Both::new(run, Brute::enumerated(pattern, text));
     let mut places: Vec<u16> = (0..=text.len() as u16 + PAST).collect();
-    if rng.once_in(FAR.1) {
-        places.extend(FAR.0);
+    if rng.once_in(FAR_ONCE_IN) {
+        places.extend(FAR);
     }
     for row in tuples(&places, pattern.count) {
         compare(&mut both, &row);
     }
 }
 
-/// Compares an occurrence at random, and the same with one thing changed so that it fails each condition alone.
+/// Compares an occurrence at random, and the same with one thing changed so that it fails one condition alone, each of
+/// the four in turn where that can be.
 fn one_changed(run: &mut Run, rng: &mut Rng, kind: &Kind) {
     let occurrence = any_occurrence(rng, kind);
     fails(run, &occurrence, [false; 4]);
     for condition in Condition::ALL {
         if let Some(changed) = broken(rng, condition, &occurrence) {
-            fails(run, &changed, Condition::ALL.map(|other| other == condition));
+            fails(run, &changed, condition.alone());
         }
     }
 }
@@ -106,8 +110,7 @@ fn compare(both: &mut Both<impl Searcher>, row: &[u16]) {
     both.row(row);
     let failed = both.brute.failed(row).expect("the pattern, the text and the row's length are accepted");
     both.run.failures.row(failed);
-    let mut conditions = Condition::ALL.into_iter().filter(|&condition| failed[condition as usize]);
-    if let (Some(condition), None) = (conditions.next(), conditions.next()) {
+    if let Some(condition) = Condition::ALL.into_iter().find(|condition| failed == condition.alone()) {
         lift(both, row, condition);
     }
 }

@@ -1,5 +1,5 @@
--- All occurrences of a pattern in a text, each once, first place first, ties by the next slot (document 01: the full list).
--- Their number is the tally.
+-- The test of an occurrence, condition by condition; and all occurrences of a pattern in a text, each once, first place first, ties by the
+-- next slot (document 01: the full list). Their number is the tally.
 use Prim.Native.Nat.{ℕ, zero, suc, _+_, _-_, _<_}
 use mathlib.Core.Bool.{Bool, true, not, _&&_}
 use mathlib.Core.List.{List, [], _∷_, _++_, map}

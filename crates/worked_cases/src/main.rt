@@ -1,5 +1,5 @@
 // Runs the worked texts through the library: of each the count, the tally, the front list, the back list, all occurrences, and whether one
-// row is an occurrence; of the last also whether those are that fail one condition alone.
+// row is an occurrence; of the last text also whether the four rows are that each fail one condition alone.
 mod cases;
 mod show;
 mod tables;

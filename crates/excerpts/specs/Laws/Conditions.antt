@@ -27,11 +27,11 @@ pub conditions-tested : {f : Pattern} {t row : List ℕ} {wordHolds gapHolds spa
     → isOccurrence f t row ≡ pick (wordHolds && gapHolds && spanHolds && sentenceHolds) Yes No
 conditions-tested {f} {t} {row} c = rw (tested f t row (c .accepted), c .word-is, c .gap-is, c .span-is, c .sentence-is)
 
--- what is answered of the worked text's rows: of the one that meets all four, and of those that fail the word, the gap, the span and the
--- sentence alone
+-- the answer for a row of the worked text
 abbrev answer : List ℕ → Tested
 answer row = isOccurrence pattern-conditions text-conditions row
 
+-- all four hold of the first row, and the others fail the word, the gap, the span and the sentence alone
 pub rows-tested : (answer (1 ∷ 4 ∷ []) ≡ Yes) × (answer (1 ∷ 3 ∷ []) ≡ No) × (answer (1 ∷ 2 ∷ []) ≡ No) × (answer (1 ∷ 5 ∷ []) ≡ No) × (answer (6 ∷ 8 ∷ []) ≡ No)
 rows-tested = (
   conditions-tested (condition-texts .all-hold),
