@@ -139,6 +139,13 @@ bedbloomer_made bedbloomer_with_slot(bedbloomer_pattern pattern, uint16_t low, u
 bedbloomer_answer bedbloomer_check_pattern(bedbloomer_pattern pattern);
 bedbloomer_answer bedbloomer_check(bedbloomer_pattern pattern, size_t words);
 
+/*
+ * Two patterns into one: at each slot the words that both take, at each gap and for the span the numbers that both allow.
+ * The tests are the first pattern's, then the second's, then 17, 18 and 19, whose place is 0; where the merge is refused,
+ * the pattern is a new one.
+ */
+bedbloomer_made bedbloomer_merge(bedbloomer_pattern first, bedbloomer_pattern second);
+
 /* Whether a row is an occurrence (1 or 0); the word at an index from 0 of its excerpt. */
 bedbloomer_answer bedbloomer_is_occurrence(bedbloomer_pattern pattern, const uint16_t *text, size_t text_words,
                                            const uint16_t *row, size_t row_places);

@@ -34,6 +34,7 @@ extern "C" {
     ) -> Made;
     fn bedbloomer_check(pattern: Pattern, words: usize) -> Answer;
     fn bedbloomer_check_pattern(pattern: Pattern) -> Answer;
+    fn bedbloomer_merge(first: Pattern, second: Pattern) -> Made;
     fn bedbloomer_is_occurrence(
         pattern: Pattern,
         text: *const u16,
@@ -163,6 +164,12 @@ pub fn check(pattern: &Pattern, words: usize) -> Answer {
 pub fn check_pattern(pattern: &Pattern) -> Answer {
     // SAFETY: no pointer is handed over, and the call answers for any numbers.
     unsafe { bedbloomer_check_pattern(*pattern) }
+}
+
+/// Two patterns merged.
+pub fn merge(first: &Pattern, second: &Pattern) -> Made {
+    // SAFETY: no pointer is handed over, and the call answers for any numbers.
+    unsafe { bedbloomer_merge(*first, *second) }
 }
 
 /// Whether a row is an occurrence.

@@ -8,6 +8,8 @@ mod files;
 mod largest;
 mod limits;
 mod lines;
+mod merged;
+mod numbers;
 mod occurrences;
 mod refusal;
 mod report;
@@ -18,6 +20,8 @@ mod self_tests;
 mod self_tests_conditions;
 #[cfg(test)]
 mod self_tests_excluding;
+#[cfg(test)]
+mod self_tests_merged;
 #[cfg(test)]
 mod self_tests_written;
 mod ways;
@@ -31,6 +35,7 @@ pub use files::{both_from_files, made_from_file, words_from_file};
 pub use largest::{largest_sets, largest_size, overlap};
 pub use limits::{pattern_of, with_slot};
 pub use lines::line;
+pub use merged::merge;
 pub use occurrences::{failed, is_occurrence, Condition};
 pub use report::{count, report};
 pub use rows::{sorted_by_slot, Row, Searcher};

@@ -6,6 +6,7 @@ pub mod excluding;
 pub mod files;
 pub mod inputs;
 pub mod lines;
+pub mod merged;
 pub mod orders;
 pub mod placed;
 pub mod random;

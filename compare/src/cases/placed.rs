@@ -44,7 +44,7 @@ pub fn any_occurrence(rng: &mut Rng, kind: &Kind) -> Placed {
 }
 
 /// A word that the slot takes.
-fn taken(rng: &mut Rng, slot: &Slot) -> u16 {
+pub fn taken(rng: &mut Rng, slot: &Slot) -> u16 {
     if slot.excluding {
         unlisted(rng, slot)
     } else {

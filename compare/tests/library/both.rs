@@ -5,7 +5,7 @@ use std::fmt::Debug;
 
 use compare::brute::{self, Brute, Row, Searcher};
 use compare::ffi;
-use compare::layout::{Answer, Cursors, Found, Pattern};
+use compare::layout::{Answer, Cursors, Found, Made, Pattern};
 
 use crate::call::Call;
 use crate::lent::Lent;
@@ -145,6 +145,7 @@ impl<'a, S: Searcher> Both<'a, S> {
         self.check();
         check_pattern(self.run, self.brute.pattern);
         write_pattern(self.run, self.brute.pattern);
+        merge(self.run, self.brute.pattern, self.brute.pattern);
         self.numbers();
         self.row(marks);
         self.searches(marks);
@@ -211,6 +212,14 @@ pub fn with_slot(run: &mut Run, pattern: &Pattern, low: u16, high: u16, words: &
         run.agree(&library, &brute, case);
         run.call(Call::WithSlot, library.number);
     }
+}
+
+/// Compares two patterns merged, and gives what the library makes of them.
+pub fn merge(run: &mut Run, first: &Pattern, second: &Pattern) -> Made {
+    let (library, brute) = (ffi::merge(first, second), brute::merge(first, second));
+    run.agree(&library, &brute, || format!("merge\nfirst: {first:?}\nsecond: {second:?}"));
+    run.call(Call::Merge, library.number);
+    library
 }
 
 /// Compares setting a client's marks to 0, and gives the state after it.

@@ -37,6 +37,7 @@ calls! {
     WithSlot = "with_slot",
     Check = "check",
     CheckPattern = "check_pattern",
+    Merge = "merge",
     IsOccurrence = "is_occurrence",
     Excerpt = "excerpt",
     FirstAfter = "first_after",

@@ -15,6 +15,9 @@ mod files;
 mod lent;
 mod limits;
 mod long;
+mod merged;
+mod merged_refusals;
+mod merged_rows;
 mod order;
 mod random;
 mod run;
@@ -34,7 +37,7 @@ use run::Run;
 type Group = (&'static str, fn(&mut Run));
 
 /// All groups.
-const GROUPS: [Group; 16] = [
+const GROUPS: [Group; 17] = [
     ("worked", worked::run),
     ("exhaustive", exhaustive::run),
     ("sentences", sentences::run),
@@ -46,6 +49,7 @@ const GROUPS: [Group; 16] = [
     ("written", written::run),
     ("arranged", arranged::run),
     ("unsorted", unsorted::run),
+    ("merged", merged::run),
     ("files", files::run),
     ("spellings", spellings::run),
     ("damage", damage::run),

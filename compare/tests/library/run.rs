@@ -6,7 +6,7 @@ use crate::call::Call;
 use crate::failures::Failures;
 
 /// The numbers that the library refuses with; each must come up in a run.
-const REFUSALS: [usize; 16] = [1, 2, 3, 4, 5, 6, 7, 8, 9, 10, 11, 12, 13, 14, 15, 16];
+const REFUSALS: [usize; 19] = [1, 2, 3, 4, 5, 6, 7, 8, 9, 10, 11, 12, 13, 14, 15, 16, 17, 18, 19];
 
 /// How many numbers there is room for: 0, where nothing is refused, and those of documents 01 and 02, 1 to 28.
 const NUMBERS: usize = 29;
@@ -53,7 +53,7 @@ impl Run {
         self.groups.last_mut().expect("a group has begun")
     }
 
-    /// Counts one input: a pattern with or without a text, one or two files, or a list of calls.
+    /// Counts one input: a pattern, or two to merge, with or without a text, one or two files, or a list of calls.
     pub fn input(&mut self) {
         self.inputs += 1;
         self.group().inputs += 1;

@@ -73,9 +73,10 @@ fn told(pattern: &Pattern, text: &[u16], marks: &[u16]) -> Vec<(u32, usize)> {
     ];
     let found = [ffi::first_after(pattern, text, marks), ffi::last_before(pattern, text, marks)];
     let served = ffi::next(&Cursors::default(), 1, pattern, text);
+    let made = ffi::merge(pattern, pattern);
     let answers = answers.iter().map(|answer| (answer.number, answer.place));
     let found = found.iter().map(|found| (found.number, found.place));
-    answers.chain(found).chain([(served.number, served.place)]).collect()
+    answers.chain(found).chain([(served.number, served.place), (made.number, made.place)]).collect()
 }
 
 /// Compares slots with two neighbouring words exchanged, equal, or the second the least, for every two neighbours and

@@ -17,6 +17,7 @@ use Rattle.matching.specs.declared.searches.Outcome.the-variants.{Found as Hit,
 use Rattle.matching.specs.declared.searches.Search.{Search}
 use Rattle.counting.specs.declared.total.Tallied.{Tallied}
 use Rattle.counting.specs.declared.total.Tallied.the-variants.{Total, Refused as NotTallied}
+use Rattle.merging.specs.declared.Merged.{Merged}
 use Rattle.format.specs.declared.input.InputRead.{InputRead}
 use Rattle.format.specs.declared.patterns.PatternRead.{PatternRead}
 use Rattle.format.specs.declared.reader.Line.{Line}
@@ -91,6 +92,10 @@ withPattern v p = record { number = ofVerdict v .number; place = ofVerdict v .pl
 -- a slot that was added
 abbrev pub ofExtended : Extended → Made
 ofExtended r = withPattern (r .verdict) (r .pattern)
+
+-- two patterns that were merged
+abbrev pub ofMerged : Merged → Made
+ofMerged r = withPattern (r .verdict) (r .pattern)
 
 -- a pattern that was read
 abbrev pub ofPatternRead : PatternRead → Made

@@ -27,6 +27,7 @@ pub use lists::bedbloomer_support;
 pub use lists::bedbloomer_tally;
 pub use making::bedbloomer_check;
 pub use making::bedbloomer_check_pattern;
+pub use making::bedbloomer_merge;
 pub use making::bedbloomer_pattern_of;
 pub use making::bedbloomer_with_slot;
 pub use rows::bedbloomer_excerpt;

@@ -2,12 +2,14 @@ use crate::answers::Answer;
 use crate::answers::Made;
 use crate::answers::of_verdict;
 use crate::answers::with_pattern;
+use merging::merge;
 use pattern::Pattern;
 ghost use mathlib.Core.Path.{_≡_};
 ghost use Rattle.pattern.specs.Patterns.{emptyPattern, withSpan};
 ghost use Rattle.pattern.specs.Adding.{extended};
 ghost use Rattle.pattern.specs.Tests.{patternVerdict, inputVerdict};
-ghost use Rattle.bindings.specs.Answers.{ofVerdict, ofExtended};
+ghost use Rattle.merging.specs.Merging.{merged};
+ghost use Rattle.bindings.specs.Answers.{ofVerdict, ofExtended, ofMerged};
 
 // The pattern without slots that has these span limits.
 #[no_mangle]
@@ -49,4 +51,15 @@ pub extern "C" fn bedbloomer_check(pattern: Pattern, words: usize) -> Answer
     ensures { λ r. ⌜ r ≡ ofVerdict (inputVerdict pattern words) ⌝ }
 {
     of_verdict(pattern.check_with(words))
+}
+
+// Two patterns into one.
+#[no_mangle]
+pub extern "C" fn bedbloomer_merge(first: Pattern, second: Pattern) -> Made
+    ensures { λ r. ⌜ r ≡ ofMerged (merged first second) ⌝ }
+{
+    let both = merge(first, second);
+    let verdict = both.verdict;
+    let pattern = both.pattern;
+    with_pattern(verdict, pattern)
 }

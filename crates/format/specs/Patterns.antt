@@ -1,8 +1,8 @@
 -- A pattern file (document 01: frame sheet): the pattern it shows, or why it is refused.
-use Prim.Native.Nat.{ℕ, _+_, _-_}
-use mathlib.Core.List.{List, [], _∷_, _++_, map}
+use Prim.Native.Nat.{ℕ, _+_}
+use mathlib.Core.List.{List, [], _∷_, map}
 use mathlib.Core.Bool.{Bool, false}
-use lib.ListN.{length, take, replicate}
+use lib.ListN.{length}
 use lib.Dec.{ltb, eqb}
 use Rattle.pattern.specs.declared.slot.Slot.{Slot}
 use Rattle.pattern.specs.declared.Pattern.{Pattern}
@@ -10,7 +10,7 @@ use Rattle.pattern.specs.declared.refusal.Refusal.{Refusal}
 use Rattle.pattern.specs.declared.refusal.Refusal.the-variants.{Names, Values, FileLength}
 use Rattle.pattern.specs.declared.refusal.Verdict.{Verdict}
 use Rattle.pattern.specs.declared.refusal.Verdict.the-variants.{Accepted, Refused}
-use Rattle.pattern.specs.Patterns.{emptySlot, emptyPattern, slotOf}
+use Rattle.pattern.specs.Patterns.{emptyPattern, slotOf, firstSlots}
 use Rattle.pattern.specs.Words.{canonical}
 use Rattle.basics.specs.Choice.{pick}
 use Rattle.pattern.specs.Tests.{patternVerdict}
@@ -92,10 +92,6 @@ statedSlot l = slotOf (l .low) (l .high) (l .excluding) (l .words)
 -- and as a pattern holds it
 abbrev pub madeSlot : SlotLine → Slot
 madeSlot l = canonical (statedSlot l)
-
--- the first sixteen slots, and unused ones after them
-abbrev pub firstSlots : List Slot → List Slot
-firstSlots ss = take 16 ss ++ replicate (16 - length ss) emptySlot
 
 -- the pattern of all the lines
 abbrev pub shownPattern : ℕ → ℕ → List SlotLine → Pattern

@@ -18,9 +18,10 @@ ghost use mathlib.Core.Path.{_≡_};
 ghost use mathlib.Core.List.{map};
 ghost use Prim.Native.Nat.{_≤_};
 ghost use lib.ListN.{length, drop};
+ghost use Rattle.pattern.specs.Patterns.{firstSlots};
 ghost use Rattle.format.specs.Bytes.{lines, ended};
 ghost use Rattle.format.specs.Steps.ValueLines.{told, slotLines};
-ghost use Rattle.format.specs.Patterns.{readSlot, madeSlot, firstSlots, refusedPattern, judged, shownPattern, patternAnswer, fromSlotNames, fromValues, patternRead};
+ghost use Rattle.format.specs.Patterns.{readSlot, madeSlot, refusedPattern, judged, shownPattern, patternAnswer, fromSlotNames, fromValues, patternRead};
 
 // What reading a pattern gives: the pattern that the file shows or, where the file is refused, a new pattern.
 pub struct PatternRead {

@@ -1,5 +1,4 @@
 -- Laws that the proofs of several functions share.
 mod Arrays
 mod Numbers
-mod Slots
 mod Ordering

@@ -2,6 +2,8 @@
 pub mod Members
 pub mod Words
 pub mod Slots
+pub mod Filling
+pub mod Verdicts
 pub mod Accepting
 pub mod Stated
 pub mod Agree

@@ -67,6 +67,10 @@ slotOf low high excluding ws = record { words = padded ws; count = length ws; lo
 abbrev pub withGap : Slot → ℕ → ℕ → Slot
 withGap s low high = record { words = s .words; count = s .count; low = low; high = high; excluding = s .excluding }
 
+-- the first sixteen of the slots, and unused ones after them
+abbrev pub firstSlots : List Slot → List Slot
+firstSlots ss = take 16 ss ++ replicate (16 - length ss) emptySlot
+
 -- the pattern with the slot last
 abbrev pub withSlot : Pattern → Slot → Pattern
 withSlot f s = record { slots = set (f .slots) (f .count) s; count = f .count + 1; least = f .least; most = f .most }

@@ -1,7 +1,7 @@
--- The number and the place of each refusal (document 01, "Turned away"; 16: document 02, Job 3).
+-- The number and the place of each refusal (document 01, "Turned away"; 16: document 02, Job 3; 17 to 19: Job 5).
 use Prim.Native.Nat.{ℕ}
 use Rattle.pattern.specs.declared.refusal.Refusal.{Refusal}
-use Rattle.pattern.specs.declared.refusal.Refusal.the-variants.{SlotCount, WordCount, ZeroWord, Gap, Span, TextLength, RowLength, ListLength, Tally, Names, Values, FileLength, WordListLength, Client, Served, WordOrder}
+use Rattle.pattern.specs.declared.refusal.Refusal.the-variants.{SlotCount, WordCount, ZeroWord, Gap, Span, TextLength, RowLength, ListLength, Tally, Names, Values, FileLength, WordListLength, Client, Served, WordOrder, SlotsDiffer, NothingShared, TooManyWords}
 
 -- its number in the table
 abbrev pub numberOf : Refusal → ℕ
@@ -21,6 +21,9 @@ numberOf WordListLength = 13
 numberOf Client = 14
 numberOf Served = 15
 numberOf (WordOrder slot) = 16
+numberOf SlotsDiffer = 17
+numberOf NothingShared = 18
+numberOf TooManyWords = 19
 
 -- its place: the slot, the line, the count, or 0
 abbrev pub placeOf : Refusal → ℕ
@@ -40,3 +43,6 @@ placeOf WordListLength = 0
 placeOf Client = 0
 placeOf Served = 0
 placeOf (WordOrder slot) = slot
+placeOf SlotsDiffer = 0
+placeOf NothingShared = 0
+placeOf TooManyWords = 0

@@ -19,6 +19,9 @@ pub enum Refusal {
     Client,
     Served,
     WordOrder(usize),
+    SlotsDiffer,
+    NothingShared,
+    TooManyWords,
 }
 
 // Whether what was handed in is accepted, and if not, why.
@@ -49,6 +52,9 @@ impl Refusal {
             Refusal::Client => 14,
             Refusal::Served => 15,
             Refusal::WordOrder(_) => 16,
+            Refusal::SlotsDiffer => 17,
+            Refusal::NothingShared => 18,
+            Refusal::TooManyWords => 19,
         }
     }
 
@@ -73,6 +79,9 @@ impl Refusal {
             Refusal::Client => 0,
             Refusal::Served => 0,
             Refusal::WordOrder(slot) => slot,
+            Refusal::SlotsDiffer => 0,
+            Refusal::NothingShared => 0,
+            Refusal::TooManyWords => 0,
         }
     }
 }

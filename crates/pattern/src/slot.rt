@@ -75,7 +75,7 @@ fn eight(words: &[u16]) -> [u16; 8]
 
 impl Slot {
     // The slot with these words, as many as there are, and 0 in its unused entries.
-    pub(crate) fn of(low: u16, high: u16, excluding: bool, words: &[u16]) -> Self
+    pub fn of(low: u16, high: u16, excluding: bool, words: &[u16]) -> Self
         ensures { λ r. ⌜ r ≡ slotOf low high excluding (now (words .entry)) ⌝ }
     {
         Slot {

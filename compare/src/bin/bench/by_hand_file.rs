@@ -19,7 +19,8 @@ fn rises(slot: &Slot) -> bool {
 }
 
 /// Whether the pattern is accepted.
-fn accepted(pattern: &Pattern) -> bool {
+#[inline]
+pub fn accepted(pattern: &Pattern) -> bool {
     let Some(slots) = pattern.slots.get(..pattern.count) else {
         return false;
     };

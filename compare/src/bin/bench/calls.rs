@@ -1,9 +1,9 @@
 //! The measured calls, by the library and by hand.
 
-use crate::{by_hand, by_hand_all, by_hand_file};
+use crate::{by_hand, by_hand_all, by_hand_file, by_hand_merge};
 use compare::cases::written::MOST_BYTES;
 use compare::ffi;
-use compare::layout::{Answer, Found, Pattern};
+use compare::layout::{Answer, Found, Made, Pattern};
 use std::fmt;
 use std::hint::black_box;
 use std::process::exit;
@@ -17,7 +17,10 @@ const SEARCHES: usize = 100;
 /// How many files make up a call that writes files.
 const FILES: usize = 100;
 
-/// A call of the library, or so many searches or files.
+/// How many merges make up a call that merges.
+const MERGES: usize = 100;
+
+/// A call of the library, or so many searches, files or merges.
 #[derive(Clone, Copy, PartialEq)]
 pub enum Call {
     Front,
@@ -28,20 +31,31 @@ pub enum Call {
     Forward,
     Backward,
     Write,
+    Merge,
 }
 
-/// The lists that a call writes to.
+/// What a call reads: a pattern, one to merge it with, and a text.
+#[derive(Clone)]
+pub struct Given {
+    pub pattern: Pattern,
+    pub second: Pattern,
+    pub text: Vec<u16>,
+}
+
+/// The lists that a call writes to, and the pattern that it makes.
 #[derive(Clone, PartialEq)]
 pub struct Lists {
     pub places: Vec<u16>,
     pub bytes: Vec<u8>,
+    pub made: Option<Pattern>,
 }
 
 impl Lists {
-    /// Sets all entries to 0.
+    /// Sets all entries to 0, and takes the pattern away.
     pub fn clear(&mut self) {
         self.places.fill(0);
         self.bytes.fill(0);
+        self.made = None;
     }
 }
 
@@ -56,6 +70,7 @@ impl fmt::Display for Call {
             Call::Forward => write!(out, "{SEARCHES} forward searches"),
             Call::Backward => write!(out, "{SEARCHES} backward searches"),
             Call::Write => write!(out, "{FILES} pattern files"),
+            Call::Merge => write!(out, "{MERGES} merges"),
         }
     }
 }
@@ -88,6 +103,14 @@ fn places(found: Found) -> Option<[u16; 16]> {
     }
 }
 
+/// The pattern that a call made.
+fn made(made: Made) -> Option<Pattern> {
+    match made.number {
+        0 => Some(made.pattern),
+        number => refused(number),
+    }
+}
+
 /// A search with a pattern, a text and marks: the places of the row that it finds.
 type Search = fn(&Pattern, &[u16], &[u16]) -> Option<[u16; 16]>;
 
@@ -115,8 +138,24 @@ fn files(write: Write, pattern: &Pattern, bytes: &mut [u8]) -> Option<u64> {
     (0..FILES).map(|_| write(black_box(pattern), black_box(bytes))).last()?
 }
 
+/// Merges the patterns again and again: what the last merge answers.
+fn merges<M>(merge: fn(&Pattern, &Pattern) -> M, first: &Pattern, second: &Pattern) -> M {
+    for _ in 1..MERGES {
+        black_box(&merge(black_box(first), black_box(second)));
+    }
+    merge(black_box(first), black_box(second))
+}
+
+/// Keeps the pattern that was made: how many words it lists.
+fn keep(made: Option<Pattern>, lists: &mut Lists) -> Option<u64> {
+    lists.made = made;
+    let words = made?.slots.iter().map(|slot| slot.count as u64).sum();
+    Some(words)
+}
+
 /// The library's call: its value, and what it writes to the lists.
-pub fn library(call: Call, pattern: &Pattern, text: &[u16], lists: &mut Lists) -> Option<u64> {
+pub fn library(call: Call, given: &Given, lists: &mut Lists) -> Option<u64> {
+    let Given { pattern, second, text } = given;
     let list = &mut lists.places[..];
     match call {
         Call::Front => value(ffi::leftmost(pattern, text, list)),
@@ -127,11 +166,13 @@ pub fn library(call: Call, pattern: &Pattern, text: &[u16], lists: &mut Lists) -
         Call::Forward => Some(searches(call, |p, t, m| places(ffi::first_after(p, t, m)), pattern, text, list)),
         Call::Backward => Some(searches(call, |p, t, m| places(ffi::last_before(p, t, m)), pattern, text, list)),
         Call::Write => files(|p, bytes| value(ffi::write_pattern(p, bytes)), pattern, &mut lists.bytes),
+        Call::Merge => keep(made(merges(ffi::merge, pattern, second)), lists),
     }
 }
 
 /// The same by hand.
-pub fn by_hand(call: Call, pattern: &Pattern, text: &[u16], lists: &mut Lists) -> Option<u64> {
+pub fn by_hand(call: Call, given: &Given, lists: &mut Lists) -> Option<u64> {
+    let Given { pattern, second, text } = given;
     let list = &mut lists.places[..];
     match call {
         Call::Front => Some(by_hand::leftmost(pattern, text, list) as u64),
@@ -142,20 +183,22 @@ pub fn by_hand(call: Call, pattern: &Pattern, text: &[u16], lists: &mut Lists) -
         Call::Forward => Some(searches(call, by_hand::first_after, pattern, text, list)),
         Call::Backward => Some(searches(call, by_hand::last_before, pattern, text, list)),
         Call::Write => files(by_hand_file::write_pattern, pattern, &mut lists.bytes),
+        Call::Merge => keep(merges(by_hand_merge::merge, pattern, second), lists),
     }
 }
 
 /// Empty lists with the room that the call needs.
-pub fn room(call: Call, pattern: &Pattern, text: &[u16]) -> Lists {
+pub fn room(call: Call, given: &Given) -> Lists {
+    let Given { pattern, text, .. } = given;
     let rows = match call {
         Call::Front | Call::Back => text.len(),
         Call::Forward | Call::Backward => SEARCHES,
-        Call::Count | Call::Tally | Call::Write => 0,
+        Call::Count | Call::Tally | Call::Write | Call::Merge => 0,
         Call::All => match by_hand_all::tally(pattern, text) {
             Some(rows) if rows < 10_000_000 => rows as usize,
             _ => fail("a case has too many occurrences to list"),
         },
     };
     let bytes = if call == Call::Write { MOST_BYTES } else { 0 };
-    Lists { places: vec![0; rows * pattern.count], bytes: vec![0; bytes] }
+    Lists { places: vec![0; rows * pattern.count], bytes: vec![0; bytes], made: None }
 }

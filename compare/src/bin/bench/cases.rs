@@ -1,10 +1,9 @@
 //! The measured cases: a selection of texts, slots, gaps, spans and calls.
 
-use crate::calls::{by_hand, fail, library, room, Call, Lists};
+use crate::calls::{by_hand, fail, library, room, Call, Given, Lists};
 use crate::clock::{rivals, Compared};
 use crate::netback::{netback, Visits};
-use crate::texts::{pattern, span_limits, text, Kind, Spans, WORDS};
-use compare::layout::Pattern;
+use crate::texts::{patterns, span_limits, text, Kind, Spans, WORDS};
 
 /// How long NetBack may take for one case.
 pub const LIMIT_MS: f64 = 2_000.0;
@@ -22,8 +21,7 @@ pub struct Case {
 /// A case ready to run.
 pub struct Ready {
     pub call: Call,
-    pub pattern: Pattern,
-    pub text: Vec<u16>,
+    pub given: Given,
     pub lists: Lists,
 }
 
@@ -52,12 +50,13 @@ pub struct Measured {
 }
 
 impl Case {
-    /// Makes the case's pattern, text and lists.
+    /// Makes the case's patterns, text and lists.
     pub fn ready(&self, words: usize) -> Ready {
         let text = text(self.kind, words);
-        let pattern = pattern(self.kind, self.spans, self.slots, self.high);
-        let lists = room(self.call, &pattern, &text);
-        Ready { call: self.call, pattern, text, lists }
+        let [pattern, second] = patterns(self.kind, self.spans, self.slots, self.high);
+        let given = Given { pattern, second, text };
+        let lists = room(self.call, &given);
+        Ready { call: self.call, given, lists }
     }
 
     /// The case in words.
@@ -85,10 +84,10 @@ impl Case {
         let (mut ready, value) = self.compared(WORDS);
         let netback = (self.call == Call::Front)
             .then(|| Rivals { any: ready.netback(Visits::Any, value), once: ready.netback(Visits::Once, value) });
-        let Ready { call, pattern, text, lists } = &mut ready;
+        let Ready { call, given, lists } = &mut ready;
         let mut other = lists.clone();
         let Compared { one, other, ratio } =
-            rivals(|| library(*call, pattern, text, lists), || by_hand(*call, pattern, text, &mut other));
+            rivals(|| library(*call, given, lists), || by_hand(*call, given, &mut other));
         Measured { case: *self, value, library: one, by_hand: other, ratio, netback }
     }
 }
@@ -96,23 +95,23 @@ impl Case {
 impl Ready {
     /// The library's call.
     pub fn library(&mut self) -> Option<u64> {
-        library(self.call, &self.pattern, &self.text, &mut self.lists)
+        library(self.call, &self.given, &mut self.lists)
     }
 
     /// The same by hand.
     pub fn by_hand(&mut self) -> Option<u64> {
-        by_hand(self.call, &self.pattern, &self.text, &mut self.lists)
+        by_hand(self.call, &self.given, &mut self.lists)
     }
 
     /// Runs NetBack within its limit, and compares it with the front list, which has so many rows and is written.
     fn netback(&self, visits: Visits, front: Option<u64>) -> Option<Rival> {
-        let found = netback(&self.pattern, &self.text, visits, LIMIT_MS)?;
-        let rows = found.len() / self.pattern.count;
-        let same = front == Some(rows as u64) && self.lists.places.starts_with(&found);
-        let Ready { call, pattern, text, lists } = self;
+        let Ready { call, given, lists } = self;
+        let found = netback(&given.pattern, &given.text, visits, LIMIT_MS)?;
+        let rows = found.len() / given.pattern.count;
+        let same = front == Some(rows as u64) && lists.places.starts_with(&found);
         let mut lists = lists.clone();
         let Compared { one, ratio, .. } =
-            rivals(|| netback(pattern, text, visits, LIMIT_MS), || library(*call, pattern, text, &mut lists));
+            rivals(|| netback(&given.pattern, &given.text, visits, LIMIT_MS), || library(*call, given, &mut lists));
         Some(Rival { rows, same, ms: one, times: ratio })
     }
 }
@@ -169,5 +168,8 @@ pub fn cases() -> Vec<Case> {
     }
     cases.push(loose(Kind::Plain(1), 1, 63, Call::Write));
     cases.push(loose(Kind::Plain(8), 16, 63, Call::Write));
+    cases.push(loose(Kind::Taken { listed: 1, shared: 1 }, 1, 63, Call::Merge));
+    cases.push(loose(Kind::Taken { listed: 8, shared: 4 }, 16, 63, Call::Merge));
+    cases.push(loose(Kind::Excluded { listed: 6, shared: 4 }, 16, 63, Call::Merge));
     cases
 }

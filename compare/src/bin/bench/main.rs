@@ -5,6 +5,7 @@
 mod by_hand;
 mod by_hand_all;
 mod by_hand_file;
+mod by_hand_merge;
 mod calls;
 mod cases;
 mod clock;
@@ -61,7 +62,7 @@ fn measure_all() {
     if overflow_checked() {
         println!("By hand and NetBack were built with overflow checks, the library has none.\n");
     }
-    let known = "case | text | slots | gaps | spans | call | rows, total or bytes | library | by hand | ratio";
+    let known = "case | text | slots | gaps | spans | call | rows, total, bytes or words | library | by hand | ratio";
     println!("| {known} | NetBack | times | NetBack, one visit | times |");
     println!("|{}", "---|".repeat(14));
     let mut all = Vec::new();
@@ -83,7 +84,9 @@ fn run_one(case: &str, who: &str, runs: &str) -> Option<()> {
         black_box(match who {
             "library" => ready.library(),
             "hand" => ready.by_hand(),
-            "netback" => netback(&ready.pattern, &ready.text, Visits::Any, LIMIT_MS).map(|rows| rows.len() as u64),
+            "netback" => {
+                netback(&ready.given.pattern, &ready.given.text, Visits::Any, LIMIT_MS).map(|rows| rows.len() as u64)
+            }
             _ => return None,
         });
     }

@@ -65,9 +65,9 @@ fn against_count() -> Vec<Figure> {
         for spans in [Spans::Loose, Spans::Tight] {
             let case = Case { kind, slots, high, spans, call: Call::Front };
             let (mut ready, rows) = case.compared(WORDS);
-            let (pattern, text) = (ready.pattern, ready.text.clone());
-            let mut lists = room(Call::Count, &pattern, &text);
-            let mut count = || library(Call::Count, &pattern, &text, &mut lists);
+            let given = ready.given.clone();
+            let mut lists = room(Call::Count, &given);
+            let mut count = || library(Call::Count, &given, &mut lists);
             if count() != rows {
                 fail(&format!("list and count differ: {}", case.describe()));
             }

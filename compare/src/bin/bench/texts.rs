@@ -34,6 +34,10 @@ pub enum Kind {
     Plain(u16),
     /// The same text with the same occurrences; the middle slot excludes the other half.
     Excluding(u16),
+    /// No text; two patterns whose slots list so many words, so many of them in both, and take these.
+    Taken { listed: u16, shared: u16 },
+    /// The same patterns with excluding slots.
+    Excluded { listed: u16, shared: u16 },
 }
 
 /// What the span limits are.
@@ -58,6 +62,8 @@ impl fmt::Display for Kind {
             Kind::Sentences => out.write_str("sentences"),
             Kind::Plain(listed) => write!(out, "{} words, {listed} taken", 2 * listed),
             Kind::Excluding(listed) => write!(out, "{} words, {listed} excluded", 2 * listed),
+            Kind::Taken { listed, shared } => write!(out, "{listed} taken, {shared} shared"),
+            Kind::Excluded { listed, shared } => write!(out, "{listed} excluded, {shared} shared"),
         }
     }
 }
@@ -92,16 +98,27 @@ pub fn text(kind: Kind, words: usize) -> Vec<u16> {
         Kind::Equal | Kind::OutOfReach => vec![7; words],
         Kind::Sentences => sentences(&mut rng, words, 4),
         Kind::Plain(listed) | Kind::Excluding(listed) => sentences(&mut rng, words, 2 * listed),
+        Kind::Taken { .. } | Kind::Excluded { .. } => Vec::new(),
     }
 }
 
 /// Whether slot j of so many is excluding.
 fn excluding(kind: Kind, slots: usize, j: usize) -> bool {
-    matches!(kind, Kind::Excluding(_)) && j == slots / 2
+    match kind {
+        Kind::Excluding(_) => j == slots / 2,
+        Kind::Excluded { .. } => true,
+        _ => false,
+    }
 }
 
-/// The words that slot j of so many lists.
-fn slot_words(kind: Kind, slots: usize, j: usize) -> Vec<u16> {
+/// Word i of so many that slot j of the first or the second of two patterns lists; those in both are spread evenly.
+fn merged_word(listed: u16, shared: u16, j: u16, i: u16, second: bool) -> u16 {
+    let both = i * shared % listed < shared;
+    1 + j + 2 * i + (second && !both) as u16
+}
+
+/// The words that slot j of so many lists, in the first or the second of two patterns.
+fn slot_words(kind: Kind, slots: usize, j: usize, second: bool) -> Vec<u16> {
     let k = j as u16;
     match kind {
         Kind::Absent if j + 1 == slots => vec![5],
@@ -112,6 +129,9 @@ fn slot_words(kind: Kind, slots: usize, j: usize) -> Vec<u16> {
             let past = slots / 2 < j || excluding(kind, slots, j);
             let first = if past { listed + 1 } else { 1 };
             (first..first + listed).collect()
+        }
+        Kind::Taken { listed, shared } | Kind::Excluded { listed, shared } => {
+            (0..listed).map(|i| merged_word(listed, shared, k, i, second)).collect()
         }
     }
 }
@@ -130,12 +150,14 @@ pub fn span_limits(kind: Kind, spans: Spans, slots: usize, high: u16) -> (u16, u
     }
 }
 
-/// A pattern for a text of that kind, with gaps from 0 to `high`.
-pub fn pattern(kind: Kind, spans: Spans, slots: usize, high: u16) -> Pattern {
+/// A pattern for a text of that kind, with gaps from 0 to `high`, and one to merge it with.
+pub fn patterns(kind: Kind, spans: Spans, slots: usize, high: u16) -> [Pattern; 2] {
     let (least, most) = span_limits(kind, spans, slots, high);
-    (0..slots).fold(ffi::pattern_of(least, most), |pattern, j| {
-        let high = if j == 0 { 0 } else { high };
-        let excluding = excluding(kind, slots, j);
-        ffi::with_slot(&pattern, 0, high, excluding, &slot_words(kind, slots, j)).pattern
+    [false, true].map(|second| {
+        (0..slots).fold(ffi::pattern_of(least, most), |pattern, j| {
+            let high = if j == 0 { 0 } else { high };
+            let excluding = excluding(kind, slots, j);
+            ffi::with_slot(&pattern, 0, high, excluding, &slot_words(kind, slots, j, second)).pattern
+        })
     })
 }

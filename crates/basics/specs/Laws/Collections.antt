@@ -1,5 +1,5 @@
 -- Laws of what holds of every member of a list, and of every two; of a list from its end; of the members that pass a test.
-use Prim.Native.Nat.{ℕ, zero, suc, _+_, _<_}
+use Prim.Native.Nat.{ℕ, zero, suc, _+_, _≤_, _<_}
 use native.Mathlib.Omega.{arith}
 use mathlib.Core.Path.{_≡_, refl, sym, ap, subst}
 use mathlib.Core.Bool.{Bool, true, false}
@@ -38,6 +38,11 @@ module _ {A : Type 0} where
   pub every-from : {P : A → Type 0} (d : A) (xs : List A) → ((k : ℕ) → k < length xs → P (getD xs k d)) → Every P xs
   every-from d [] h = none
   every-from d (x ∷ xs) h = more (h zero (omega arith)) (every-from d xs (λ k l. h (suc k) (omega arith)))
+
+  -- what holds of whatever is a member holds of each member
+  pub every-listed : {P : A → Type 0} (xs : List A) → ((x : A) → List·Memᴰ x xs → P x) → Every P xs
+  every-listed [] h = none
+  every-listed (x ∷ xs) h = more (h x (List·Memᴰ·head refl)) (every-listed xs (λ y m. h y (List·Memᴰ·tail m)))
 
   -- a relation between any two stands between the members
   pub pairwise-of : {R : A → A → Type 0} → ((x y : A) → R x y) → (xs : List A) → Pairwise R xs
@@ -147,6 +152,23 @@ module _ {A : Type 0} where
   unfolding select keep
   select-mem p (List·Memᴰ·head {x = y} e) h = let q : p y ≡ true = cc in rw q (List·Memᴰ·head e)
   select-mem p (List·Memᴰ·tail {x = y} m) h = keep-tail (p y) y (select-mem p m h)
+
+  -- no more of them than before
+  keep-length : (b : Bool) (x : A) (xs : List A) → length (keep b x xs) ≤ length xs + 1
+  unfolding keep
+  keep-length true x xs = omega arith
+  keep-length false x xs = omega arith
+
+  pub select-length : (p : A → Bool) (xs : List A) → length (select p xs) ≤ length xs
+  unfolding select
+  select-length p [] = omega arith
+  select-length p (x ∷ xs) = omega (arith, keep-length (p x) x (select p xs), select-length p xs)
+
+  -- all of them where each passes
+  pub select-all : (p : A → Bool) {xs : List A} → Every (λ x. p x ≡ true) xs → select p xs ≡ xs
+  unfolding select keep
+  select-all p none = refl
+  select-all p (more {x = x} h e) = rw (h, select-all p e)
 
 -- ---- the list of the images
 

@@ -4,8 +4,7 @@ use native.Mathlib.Omega.{arith}
 use mathlib.Core.Path.{_≡_, refl, sym, _∙_, ap}
 use mathlib.Core.Bool.{Bool, true, false}
 use mathlib.Core.List.{List, [], _∷_, map}
-use lib.ListN.{length, getD, take, replicate, length-map, length-take, List·getD-append}
-use lib.Seq.{getD-take}
+use lib.ListN.{length, getD, length-map}
 use lib.Dec.{ltb}
 use Rattle.pattern.specs.declared.slot.Slot.{Slot}
 use Rattle.pattern.specs.declared.Pattern.{Pattern}
@@ -14,18 +13,19 @@ use Rattle.pattern.specs.declared.refusal.Refusal.the-variants.{FileLength, Nam
 use Rattle.pattern.specs.declared.refusal.Verdict.{Verdict}
 use Rattle.pattern.specs.declared.refusal.Verdict.the-variants.{Accepted, Refused}
 use Rattle.pattern.specs.Refusals.{numberOf}
-use Rattle.pattern.specs.Patterns.{emptySlot, noSlot}
+use Rattle.pattern.specs.Patterns.{noSlot, firstSlots}
 use Rattle.pattern.specs.Words.{canonical}
 use Rattle.pattern.specs.Tests.{limitsVerdict, patternVerdict}
 use Rattle.pattern.specs.Laws.Canonical.{padded-eight}
 use Rattle.pattern.specs.Laws.Accepting.{refused-fine}
+use Rattle.pattern.specs.Laws.Filling.{first-at}
 use Rattle.pattern.specs.Laws.Limits.{Holds, limits-number, verdict-held}
 use Rattle.basics.specs.Choice.{pick}
 use Rattle.basics.specs.Laws.Collections.{map-at}
 use Rattle.format.specs.Bytes.{ended, field, fields, lines, value}
 use Rattle.format.specs.Layouts.{scan}
 use Rattle.format.specs.Names.{column, columnsOf, leastName, mostName, slotNames, spanNames}
-use Rattle.format.specs.Patterns.{PatternContents, SlotLine, firstSlots, fromNames, fromSlotNames, fromSlots, fromValues, judgedBy, madeSlot, patternAnswer, patternContents, patternRead, readSlot, refused, refusedPattern, shown, shownPattern, slotValues, spanValues, statedSlot}
+use Rattle.format.specs.Patterns.{PatternContents, SlotLine, fromNames, fromSlotNames, fromSlots, fromValues, judgedBy, madeSlot, patternAnswer, patternContents, patternRead, readSlot, refused, refusedPattern, shown, shownPattern, slotValues, spanValues, statedSlot}
 use Rattle.format.specs.declared.layout.Layout.{Layout}
 use Rattle.format.specs.declared.layout.Layout.the-variants.{Right, Wrong}
 use Rattle.format.specs.declared.names.Columns.{Columns}
@@ -34,10 +34,8 @@ use Rattle.format.specs.declared.names.Columns.{Columns}
 
 pub slot-of-line : (make : SlotLine → Slot) (ls : List SlotLine) (d : SlotLine) (j : ℕ) → j < length ls → j < 16 → getD (firstSlots (map make ls)) j noSlot ≡ make (getD ls j d)
 slot-of-line make ls d j h few =
-    let made = map make ls in
-    let long : length made ≡ length ls = length-map ls make in
-    let inside : j < length (take 16 made) = simp length-take (omega arith) in
-    List·getD-append (take 16 made) (replicate (16 - length made) emptySlot) noSlot j inside ∙ getD-take 16 made j noSlot few ∙ map-at make ls d noSlot j h
+    let long : length (map make ls) ≡ length ls = length-map ls make in
+    first-at (map make ls) j (omega arith) few ∙ map-at make ls d noSlot j h
 
 -- ---- the tests
 

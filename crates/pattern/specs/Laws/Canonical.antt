@@ -40,7 +40,7 @@ pub slot-stated : (low high : ℕ) (excluding : Bool) (ws : List ℕ) → length
 slot-stated low high excluding ws h =
     ap (λ (l : List ℕ). take (length ws) (l ++ replicate (8 - length ws) 0)) (take-all 8 ws h) ∙ take-append-seam ws (replicate (8 - length ws) 0)
 
-stated-length : (s : Slot) → length (stated s) ≤ s .count
+pub stated-length : (s : Slot) → length (stated s) ≤ s .count
 stated-length s = simp length-take (omega arith)
 
 pub canonical-stated : (s : Slot) → s .count ≤ 8 → stated (canonical s) ≡ sorted (stated s)

@@ -7,8 +7,9 @@ use lib.ListN.{length, replicate, length-set}
 use Rattle.pattern.specs.Patterns.{emptySlot}
 use Rattle.pattern.specs.declared.Pattern.{Pattern}
 use Rattle.pattern.specs.declared.slot.Slot.{Slot}
+use Rattle.pattern.specs.Laws.Filling.{filled, filled-first, filled-next, filled-none, filled-past}
 use Rattle.format.proofs.LineSteps.{Closed, Lined, closed-line, lined, open-line}
-use Rattle.format.proofs.SlotSteps.{filled, filled-first, filled-full, filled-next, filled-none, slots-end, slots-next, slots-open, slotsFrom}
+use Rattle.format.proofs.SlotSteps.{slots-end, slots-next, slots-open, slotsFrom}
 use borrow.Author.Needs.{needs}
 use Rattle.format.proofs.patterns.slots_in.Statement.{statement}
 use Rattle.format.proofs.patterns.slots_in.Tie as tie
@@ -38,7 +39,7 @@ new-requires c κs = search needs
 returns : tie.Need-returns Inv-loop μ-loop
 returns c =
     let l = c .before .before .loop in
-    sym (sym (filled-first _) ∙ l .inv .1 .1 ∙ filled-full (l .slots) _ (l .k) (omega arith))
+    sym (sym (filled-first _) ∙ l .inv .1 .1 ∙ filled-past _ (l .slots) (l .k) (omega arith))
 
 line-at-requires : tie.Need-line-at-requires Inv-loop μ-loop
 line-at-requires c κs = search needs

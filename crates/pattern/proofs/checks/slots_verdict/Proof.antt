@@ -3,7 +3,7 @@ use native.Mathlib.Omega.{arith}
 use Prim.Native.Nat.{_≤_, _-_}
 use mathlib.Core.Path.{_≡_, sym, _∙_, ap}
 use Rattle.pattern.specs.Tests.{slotVerdict, slotsVerdict}
-use Rattle.pattern.proofs.Slots.{slots-refused, slots-on, slots-end}
+use Rattle.pattern.specs.Laws.Verdicts.{slots-refused, slots-on, slots-end}
 use borrow.Author.Needs.{needs}
 use Rattle.pattern.proofs.checks.slots_verdict.Statement.{statement}
 use Rattle.pattern.proofs.checks.slots_verdict.Tie as tie

@@ -1,4 +1,4 @@
--- The tests of the slots, as the loop goes through them. Assumes nothing.
+-- The tests of the slots, as a loop goes through them.
 use Prim.Native.Nat.{ℕ, suc, _+_, _-_, _<_}
 use native.Mathlib.Omega.{arith}
 use mathlib.Core.Path.{_≡_, _∙_, ap}
