@@ -53,16 +53,16 @@ SIZE(bedbloomer_excerpted, 16);
 FIELD(bedbloomer_excerpted, length, 0);
 FIELD(bedbloomer_excerpted, word, 8);
 
-SIZE(bedbloomer_marks, 32);
-FIELD(bedbloomer_marks, places, 0);
+SIZE(bedbloomer_client, 40);
+FIELD(bedbloomer_client, marks, 0);
+FIELD(bedbloomer_client, served, 32);
 
-SIZE(bedbloomer_cursors, 136);
-FIELD(bedbloomer_cursors, marks, 0);
-FIELD(bedbloomer_cursors, served, 128);
+SIZE(bedbloomer_cursors, 160);
+FIELD(bedbloomer_cursors, clients, 0);
 
-SIZE(bedbloomer_served, 192);
+SIZE(bedbloomer_served, 216);
 FIELD(bedbloomer_served, cursors, 0);
-FIELD(bedbloomer_served, number, 136);
-FIELD(bedbloomer_served, place, 144);
-FIELD(bedbloomer_served, found, 152);
-FIELD(bedbloomer_served, places, 160);
+FIELD(bedbloomer_served, number, 160);
+FIELD(bedbloomer_served, place, 168);
+FIELD(bedbloomer_served, found, 176);
+FIELD(bedbloomer_served, places, 184);

@@ -85,15 +85,15 @@ typedef struct {
     uint16_t word;
 } bedbloomer_excerpted;
 
-/* The marks of one client. */
+/* One client: its marks, and how many occurrences it was served. */
 typedef struct {
-    uint16_t places[16];
-} bedbloomer_marks;
-
-/* The marks of clients 1 to 4, and the number served; fresh: all 0. */
-typedef struct {
-    bedbloomer_marks marks[4];
+    uint16_t marks[16];
     size_t served;
+} bedbloomer_client;
+
+/* Clients 1 to 4, in this order; fresh: all 0. */
+typedef struct {
+    bedbloomer_client clients[4];
 } bedbloomer_cursors;
 
 /* The state that a call of `next` or `rewind` leaves, beside what it answers; `rewind` finds nothing. */
@@ -170,9 +170,11 @@ bedbloomer_answer bedbloomer_all(bedbloomer_pattern pattern, const uint16_t *tex
 bedbloomer_answer bedbloomer_support(bedbloomer_pattern pattern, const uint16_t *text, size_t text_words);
 bedbloomer_answer bedbloomer_tally(bedbloomer_pattern pattern, const uint16_t *text, size_t text_words);
 
-/* The next occurrence for a client; its marks set to 0. */
+/* The next occurrence for a client, refused with 15 where it was served 500 or more. */
 bedbloomer_served bedbloomer_next(bedbloomer_cursors cursors, size_t client, bedbloomer_pattern pattern,
                                   const uint16_t *text, size_t text_words);
+
+/* A client rewound: its marks set to 0, its number as it was. */
 bedbloomer_served bedbloomer_rewind(bedbloomer_cursors cursors, size_t client);
 
 #endif

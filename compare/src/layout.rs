@@ -77,19 +77,19 @@ pub struct Excerpted {
     pub word: u16,
 }
 
-/// The marks of one client.
+/// One client: its marks, and how many occurrences it was served.
 #[repr(C)]
 #[derive(Clone, Copy, Debug, Default, PartialEq, Eq)]
-pub struct Marks {
-    pub places: [u16; 16],
+pub struct Client {
+    pub marks: [u16; 16],
+    pub served: usize,
 }
 
-/// The marks of clients 1 to 4, and the number served.
+/// Clients 1 to 4.
 #[repr(C)]
 #[derive(Clone, Copy, Debug, Default, PartialEq, Eq)]
 pub struct Cursors {
-    pub marks: [Marks; 4],
-    pub served: usize,
+    pub clients: [Client; 4],
 }
 
 /// The state that a call of `next` or `rewind` leaves, beside what it answers.
@@ -123,6 +123,6 @@ laid_out!(ReadBoth, 552, { number: 0, place: 8, words: 16, pattern: 24 });
 laid_out!(LineEnds, 16, { end: 0, next: 8 });
 laid_out!(Found, 56, { number: 0, place: 8, found: 16, places: 24 });
 laid_out!(Excerpted, 16, { length: 0, word: 8 });
-laid_out!(Marks, 32, { places: 0 });
-laid_out!(Cursors, 136, { marks: 0, served: 128 });
-laid_out!(Served, 192, { cursors: 0, number: 136, place: 144, found: 152, places: 160 });
+laid_out!(Client, 40, { marks: 0, served: 32 });
+laid_out!(Cursors, 160, { clients: 0 });
+laid_out!(Served, 216, { cursors: 0, number: 160, place: 168, found: 176, places: 184 });

@@ -19,6 +19,8 @@ mod self_tests;
 #[cfg(test)]
 mod self_tests_conditions;
 #[cfg(test)]
+mod self_tests_cursors;
+#[cfg(test)]
 mod self_tests_excluding;
 #[cfg(test)]
 mod self_tests_merged;

@@ -14,7 +14,6 @@ use crate::cases::tallies::{equal_sentences, one_below_power, power, sixteen_wor
 use crate::cases::worked::{worked_texts, Rows};
 use crate::cases::Words::{But, Only};
 use crate::cases::{pattern, ANY_SPAN};
-use crate::layout::Cursors;
 use crate::rng::Rng;
 
 /// Asserts that a list, if it is named, has these rows.
@@ -128,26 +127,14 @@ fn refusals_of_calls() {
     assert_eq!(Brute::windowed(&wide, &[7; 1000]).tally().number, 9);
 }
 
-/// The examples in the scope's table of refusals, 10 to 15.
+/// The examples in the scope's table of refusals, 10 to 13.
 #[test]
-fn refusals_of_files_and_cursors() {
+fn refusals_of_files() {
     let made = made_from_file(b"least most\n1 5\nwords low\n0 0 7\n");
     assert_eq!((made.number, made.place), (10, 3));
     assert_eq!(refused("1 20000", "0 01 7\n"), (11, 4));
     assert_eq!(made_from_file(&[b'\n'; 60_001]).number, 12);
     assert_eq!(words_from_file(b"word\n7\n8\n", &mut [0]).number, 13);
-    let accepted = pattern(ANY_SPAN, &sevens(1, 0, 0));
-    let text = vec![7; 600];
-    let brute = Brute::enumerated(&accepted, &text);
-    assert_eq!(brute.next(&Cursors::default(), 5).number, 14);
-    let mut cursors = Cursors::default();
-    for call in 1..=500 {
-        let served = brute.next(&cursors, 4);
-        assert_eq!((served.number, served.found, served.places[0]), (0, 1, call));
-        cursors = served.cursors;
-    }
-    let served = brute.next(&cursors, 4);
-    assert_eq!((served.number, served.cursors), (15, cursors));
 }
 
 /// What two files are refused with, three words lent; a refusal gives a new pattern and no words, and writes none.

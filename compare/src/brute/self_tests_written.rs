@@ -1,12 +1,13 @@
 //! Words in rising order in the brute force: slots put in order, refusal 16, and patterns written as files, by hand.
 
 use super::*;
+use crate::cases::clients::numbered;
 use crate::cases::orders::{canonical, in_order, rearranged, spread, weak_orders};
 use crate::cases::random::{any_pattern, Kind};
 use crate::cases::written::{longest, LONGEST_FILE, MOST_BYTES, WRITTEN_FILES};
 use crate::cases::Words::{But, Only};
 use crate::cases::{alike, files::usual_pattern_file, pattern, Written, ANY_SPAN};
-use crate::layout::{Answer, Cursors, Excerpted, Pattern, Slot};
+use crate::layout::{Answer, Excerpted, Pattern, Slot};
 use crate::rng::Rng;
 
 /// The pattern that adding these slots one by one makes.
@@ -151,9 +152,11 @@ fn order_of_sixteen() {
         assert_eq!((found.number, found.place, found.found), (16, 2, 0));
     }
     assert_eq!(brute.excerpt(&[1, 2], 0), Excerpted { length: 0, word: 0 });
-    let cursors = Cursors { served: 500, ..Cursors::default() };
-    let served = brute.next(&cursors, 5);
-    assert_eq!((served.number, served.place, served.cursors), (16, 2, cursors));
+    let cursors = numbered([500; 4]);
+    for client in [4, 5] {
+        let served = brute.next(&cursors, client);
+        assert_eq!((served.number, served.place, served.cursors), (16, 2, cursors));
+    }
 }
 
 /// The files put down by hand, byte for byte, into lists of every length near theirs.

@@ -1,5 +1,6 @@
-//! The cases: tables, and generators of patterns, texts and files.
+//! The cases: tables, and generators of patterns, texts, files and calls.
 
+pub mod clients;
 pub mod conditions;
 pub mod examples;
 pub mod excluding;

@@ -162,12 +162,12 @@ pub fn any_marks(rng: &mut Rng, slots: usize, text: usize) -> Vec<u16> {
     (0..slots).map(|_| mark(rng)).collect()
 }
 
-/// A state of the cursors with any values.
+/// A state of the cursors with any marks and, for each client on its own, any number served.
 pub fn any_cursors(rng: &mut Rng, text: usize) -> Cursors {
     let mut cursors = Cursors::default();
-    for marks in &mut cursors.marks {
-        marks.places.copy_from_slice(&any_marks(rng, 16, text));
+    for client in &mut cursors.clients {
+        client.marks.copy_from_slice(&any_marks(rng, 16, text));
+        client.served = rng.pick(&[0, 1, 250, 498, 499, 500, 501, 65_535, usize::MAX]);
     }
-    cursors.served = rng.pick(&[0, 1, 250, 498, 499, 500, 501, 65_535, usize::MAX]);
     cursors
 }

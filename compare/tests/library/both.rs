@@ -5,7 +5,7 @@ use std::fmt::Debug;
 
 use compare::brute::{self, Brute, Row, Searcher};
 use compare::ffi;
-use compare::layout::{Answer, Cursors, Found, Made, Pattern};
+use compare::layout::{Answer, Cursors, Found, Made, Pattern, Served};
 
 use crate::call::Call;
 use crate::lent::Lent;
@@ -130,14 +130,14 @@ impl<'a, S: Searcher> Both<'a, S> {
         self.run.call(call, library.number);
     }
 
-    /// Compares the next occurrence for a client, and gives the state after it.
-    pub fn next(&mut self, cursors: &Cursors, client: usize) -> Cursors {
+    /// Compares the next occurrence for a client, and gives what the library answers.
+    pub fn next(&mut self, cursors: &Cursors, client: usize) -> Served {
         let (pattern, text) = (self.brute.pattern, self.brute.text);
         let library = ffi::next(cursors, client, pattern, text);
         let brute = self.brute.next(cursors, client);
         self.agree(&library, &brute, || format!("next for {client} from {cursors:?}"));
         self.run.call(Call::Next, library.number);
-        library.cursors
+        library
     }
 
     /// Compares each call once or more, with these marks, which also serve as a row.
@@ -222,12 +222,12 @@ pub fn merge(run: &mut Run, first: &Pattern, second: &Pattern) -> Made {
     library
 }
 
-/// Compares setting a client's marks to 0, and gives the state after it.
-pub fn rewind(run: &mut Run, cursors: &Cursors, client: usize) -> Cursors {
+/// Compares setting a client's marks to 0, and gives what the library answers.
+pub fn rewind(run: &mut Run, cursors: &Cursors, client: usize) -> Served {
     let library = ffi::rewind(cursors, client);
     let brute = brute::rewind(cursors, client);
     let case = || format!("rewind {client} from {cursors:?}");
     run.agree(&library, &brute, case);
     run.call(Call::Rewind, library.number);
-    library.cursors
+    library
 }

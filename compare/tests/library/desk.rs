@@ -1,77 +1,67 @@
 //! Lists of calls of the four clients, from fresh and from arbitrary states.
 
-use compare::brute::Brute;
-use compare::cases::inputs::sevens;
-use compare::cases::random::{any_cursors, any_pattern, any_text, break_pattern, Kind};
-use compare::cases::sentences::cut_every;
-use compare::cases::Words::But;
-use compare::cases::{pattern, ANY_SPAN};
-use compare::layout::{Cursors, Pattern};
+use compare::brute::{Brute, Row};
+use compare::cases::clients::{any_calls, Asked, Called};
+use compare::cases::random::any_cursors;
+use compare::ffi;
+use compare::layout::{Cursors, Found, Pattern, Served};
 use compare::rng::Rng;
 
 use crate::both::{rewind, Both};
 use crate::run::Run;
-
-/// What the clients' patterns are like.
-const KIND: Kind = Kind { slots: (1, 5), highest_word: 2, most_words: 2, widest_gap: 3 };
+use crate::{desk_isolation, desk_quota, desk_rising};
 
 /// Compares lists of calls.
 pub fn run(run: &mut Run) {
     let mut rng = Rng::new(66);
     for _ in 0..600 {
-        calls(run, &mut rng, Cursors::default(), 60);
+        follow(run, Cursors::default(), &any_calls(&mut rng, 60));
     }
     for _ in 0..3_000 {
         let cursors = any_cursors(&mut rng, 20);
-        calls(run, &mut rng, cursors, 6);
+        follow(run, cursors, &any_calls(&mut rng, 10));
     }
-    for client in 1..=4 {
-        until_refused(run, client, &pattern(ANY_SPAN, &sevens(1, 0, 0)), &[7; 600]);
-        // Sentences of two words: each is one occurrence, and the next begins past a 0.
-        until_refused(run, client, &pattern(ANY_SPAN, &sevens(2, 0, 2)), &cut_every(3, vec![7; 1_800]));
-        // Any word but 8 before any word: the same occurrences.
-        let excluding = [(0, 0, But(&[8])), (0, 2, But(&[]))];
-        until_refused(run, client, &pattern(ANY_SPAN, &excluding), &cut_every(3, vec![7; 1_800]));
-    }
+    desk_isolation::run(run);
+    desk_rising::run(run);
+    desk_quota::run(run);
 }
 
-/// Compares a list of calls, the pattern and the text changing now and then, each call from the state before it.
-fn calls(run: &mut Run, rng: &mut Rng, mut cursors: Cursors, length: usize) {
+/// Compares a list of calls, each from the state before it, and gives what the library answers to each.
+pub fn follow(run: &mut Run, mut cursors: Cursors, calls: &[Called]) -> Vec<Served> {
     run.input();
-    let (mut pattern, mut text) = any_request(rng);
-    for _ in 0..length {
-        if rng.once_in(6) {
-            (pattern, text) = any_request(rng);
-        }
-        let client = if rng.once_in(15) { rng.pick(&[0, 5, usize::MAX]) } else { rng.within(1, 4) };
-        cursors = if rng.once_in(8) {
-            rewind(run, &cursors, client)
-        } else {
-            Both { run, brute: Brute::enumerated(&pattern, &text) }.next(&cursors, client)
+    let mut answers = Vec::new();
+    for (client, asked) in calls {
+        let served = match asked {
+            Asked::Next(request) => {
+                Both { run, brute: Brute::enumerated(&request.pattern, &request.text) }.next(&cursors, *client)
+            }
+            Asked::Rewind => rewind(run, &cursors, *client),
         };
+        assert_others_kept(*client, &cursors, &served.cursors);
+        cursors = served.cursors;
+        answers.push(served);
+    }
+    answers
+}
+
+/// Asserts that a call of this client has left the entries of all others as they were.
+fn assert_others_kept(client: usize, before: &Cursors, after: &Cursors) {
+    for at in (0..4).filter(|at| at + 1 != client) {
+        // A call writes to its own client's entry at most, and to none if there is no such client.
+        assert_eq!(after.clients[at], before.clients[at], "client {} after a call of {client}", at + 1);
     }
 }
 
-/// A pattern, now and then one past the limits, and a text.
-fn any_request(rng: &mut Rng) -> (Pattern, Vec<u16>) {
-    let mut pattern = any_pattern(rng, &KIND);
-    if rng.once_in(10) {
-        break_pattern(rng, &mut pattern);
-    }
-    let words = rng.within(0, 30);
-    (pattern, any_text(rng, words, 2))
+/// The answers to the calls of this client, without the state beside them.
+pub fn told(client: usize, calls: &[Called], served: &[Served]) -> Vec<Found> {
+    let own = calls.iter().zip(served).filter(|((caller, _), _)| *caller == client);
+    own.map(|(_, &Served { number, place, found, places, .. })| Found { number, place, found, places }).collect()
 }
 
-/// Compares calls for one client in a text with 600 occurrences until 500 are served, then two more, and a rewind
-/// between them.
-fn until_refused(run: &mut Run, client: usize, pattern: &Pattern, text: &[u16]) {
-    let mut cursors = Cursors::default();
-    for _ in 0..501 {
-        let mut both = Both::new(run, Brute::enumerated(pattern, text));
-        cursors = both.next(&cursors, client);
-    }
-    assert_eq!(cursors.served, 500);
-    cursors = rewind(run, &cursors, client);
-    assert_eq!((cursors.served, cursors.marks[client - 1].places), (500, [0; 16]));
-    Both::new(run, Brute::enumerated(pattern, text)).next(&cursors, client);
+/// The library's own front list of a pattern and a text that it accepts.
+pub fn front_list(pattern: &Pattern, text: &[u16]) -> Vec<Row> {
+    let mut entries = vec![0; text.len() * pattern.count];
+    let answer = ffi::leftmost(pattern, text, &mut entries);
+    assert_eq!(answer.number, 0, "leftmost is refused\npattern: {pattern:?}");
+    entries.chunks(pattern.count).take(answer.value as usize).map(<[u16]>::to_vec).collect()
 }

@@ -1,6 +1,7 @@
 //! Each limit of patterns, texts, rows, lists, tallies, clients and lines, from both sides.
 
 use compare::brute::{self, Brute};
+use compare::cases::clients::numbered_apart;
 use compare::cases::inputs::sevens;
 use compare::cases::lines::one_long_line;
 use compare::cases::random::add_garbage;
@@ -222,22 +223,21 @@ fn cut_sevens(run: &mut Run, pattern: &Pattern, words: usize, others: usize) {
     }
 }
 
-/// Compares clients and numbers served on both sides of their limits.
+/// Compares clients and numbers served on both sides of their limits, the other clients' numbers on both sides, too.
 fn clients(run: &mut Run) {
     let accepted = pattern(ANY_SPAN, &sevens(2, 0, 1));
     let any = pattern(ANY_SPAN, &alike(But(&[]), 2, 0, 1));
     let nowhere = pattern(ANY_SPAN, &[(0, 0, Only(&[5]))]);
     for client in [0, 1, 2, 3, 4, 5, 256, 65_537, (1 << 32) + 1, 1 << 63, usize::MAX] {
         for served in [0, 1, 498, 499, 500, 501, 65_536, 1 << 32, 1 << 63, usize::MAX] {
-            let mut cursors = Cursors { served, ..Cursors::default() };
-            for (at, marks) in cursors.marks.iter_mut().enumerate() {
-                marks.places.fill(at as u16);
+            for others in [0, 499, 500, usize::MAX] {
+                let cursors = numbered_apart(client, served, others);
+                for pattern in [accepted, any, nowhere, brute::pattern_of(1, 1)] {
+                    Both::new(run, Brute::enumerated(&pattern, &TEXT)).next(&cursors, client);
+                }
+                run.input();
+                rewind(run, &cursors, client);
             }
-            for pattern in [accepted, any, nowhere, brute::pattern_of(1, 1)] {
-                Both::new(run, Brute::enumerated(&pattern, &TEXT)).next(&cursors, client);
-            }
-            run.input();
-            rewind(run, &cursors, client);
         }
     }
 }

@@ -1,11 +1,12 @@
 //! Several failures at once, in plain and in excluding slots, so that the order of the tests is seen.
 
 use compare::brute::Brute;
+use compare::cases::clients::numbered_apart;
 use compare::cases::inputs::sevens;
 use compare::cases::small::tuples;
 use compare::cases::Words::But;
 use compare::cases::{pattern, ANY_SPAN};
-use compare::layout::{Cursors, Pattern};
+use compare::layout::Pattern;
 
 use crate::both::{check, check_pattern, write_pattern_in, Both};
 use crate::run::Run;
@@ -46,8 +47,9 @@ fn every_call(run: &mut Run, pattern: &Pattern, failures: u32) {
     let wrong = failures & PLACES != 0;
     let marks = if wrong { &[0, 0][..] } else { &[0, 0, 0] };
     let client = if wrong { 5 } else { 1 };
+    // The other clients' numbers are on the other side of the limit.
     let served = if failures & SERVED == 0 { 0 } else { 500 };
-    let cursors = Cursors { served, ..Cursors::default() };
+    let cursors = numbered_apart(client, served, 500 - served);
     let mut both = Both::new(run, Brute::enumerated(pattern, text));
     both.every_call(marks, &cursors, client);
 }

@@ -9,7 +9,7 @@ use compare::cases::pattern;
 use compare::cases::worked::{worked_texts, Rows, Worked};
 use compare::cases::written::MOST_BYTES;
 use compare::ffi;
-use compare::layout::{Answer, Cursors, Found, LineEnds, Pattern};
+use compare::layout::{Answer, Client, Cursors, Found, LineEnds, Pattern};
 
 use crate::both::Both;
 use crate::file_calls;
@@ -86,7 +86,9 @@ fn stated_searches(case: &Worked, pattern: &Pattern) {
             assert_eq!(served.places, ffi::first_after(pattern, case.text, &marks).places);
             (marks, cursors) = (row.map_or(marks, |row| row.to_vec()), served.cursors);
         }
-        assert_eq!(cursors.served, front.len());
+        // The client was served each row of the front list once, and the others nothing.
+        assert_eq!(cursors.clients[0].served, front.len());
+        assert_eq!(cursors.clients[1..], [Client::default(); 3]);
     }
     let mut marks = vec![65_535; slots];
     for row in case.back.into_iter().flat_map(|back| back.iter().rev().map(Some).chain([None])) {

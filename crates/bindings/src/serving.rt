@@ -39,7 +39,7 @@ pub extern "C" fn bedbloomer_next(
     with_cursors(after, told, places)
 }
 
-// The client's marks set to 0.
+// The client's marks set to 0, and its number as it was.
 #[no_mangle]
 pub extern "C" fn bedbloomer_rewind(cursors: Cursors, client: usize) -> ServedTo
     ensures { λ r. ⌜ r ≡ ofRewound (rewound cursors client) ⌝ }

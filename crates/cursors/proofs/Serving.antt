@@ -1,11 +1,11 @@
--- The search's answer and the marks as the specification has them. Assumes nothing.
-use Prim.Native.Nat.{ℕ, _≤_}
+-- The search's answer and the client that it leaves as the specification has them. Assumes nothing.
+use Prim.Native.Nat.{ℕ, _+_, _-_, _≤_}
 use native.Mathlib.Omega.{arith}
 use mathlib.Core.Path.{_≡_, refl, sym, ap, _∙_}
 use mathlib.Core.Option.{Option, none, some}
 use mathlib.Core.List.{List, _++_}
 use lib.ListN.{length, take, drop}
-use lib.Seq.{length-take-le}
+use lib.Seq.{length-take-le, set-getD}
 use borrow.Author.Tests.{le-ltb, eq-eqb}
 use Rattle.pattern.specs.declared.Pattern.{Pattern}
 use Rattle.pattern.specs.declared.refusal.Verdict.the-variants.{Accepted}
@@ -17,11 +17,11 @@ use Rattle.matching.specs.Answers.{rowVerdict, searched, firstAfter}
 use Rattle.matching.specs.Laws.Extremes.{earliest-some}
 use Rattle.matching.specs.declared.searches.Search.{Search}
 use Rattle.basics.specs.Written.{rowOver}
+use Rattle.cursors.specs.declared.Client.{Client}
 use Rattle.cursors.specs.declared.Cursors.{Cursors}
 use Rattle.cursors.specs.declared.Served.{Served}
 use Rattle.cursors.specs.Steps.Keeping.{keptBy}
-use Rattle.cursors.specs.Machine.{servedBy, marksOver, moved}
-use Rattle.cursors.specs.declared.Marks.{Marks}
+use Rattle.cursors.specs.Machine.{nobody, clientOf, withClient, moved, firstMarks, nextRow, servedBy}
 use Rattle.cursors.specs.Laws.Giving.{first-sixteen}
 
 -- ---- the search from the first marks
@@ -37,30 +37,31 @@ sought f t marks long e =
     let size : length (take (f .count) marks) ≡ f .count = length-take-le (f .count) marks (omega arith) in
     simp (e, eq-eqb _ _ size)
 
--- ---- a row over the marks
+-- ---- a client that was served a row
 
-abbrev placed : List ℕ → Marks
-placed p = record { places = p }
-
-pub overlaid : (m : ℕ) (row : List ℕ) {places : List ℕ} (marks : Marks) → m ≤ 16 → length row ≡ 16 → length (marks .places) ≡ 16
-    → places ≡ rowOver m row (marks .places) → _≡_ {A = Marks} (record { places = places }) (marksOver (take m row) marks)
-overlaid m row {places} marks few long room e =
+pub overlaid : (m : ℕ) (row : List ℕ) {marks : List ℕ} (before : Client) → m ≤ 16 → length row ≡ 16 → length (before .marks) ≡ 16
+    → marks ≡ rowOver m row (before .marks) → _≡_ {A = Client} (record { marks = marks; served = before .served + 1 }) (moved (take m row) before)
+overlaid m row {marks} before few long room e =
     let size : length (take m row) ≡ m = length-take-le m row (omega arith) in
-    let q : places ≡ take m row ++ drop m (marks .places) = simp (le-ltb (length row) m (omega arith), le-ltb (length (marks .places)) m (omega arith)) at e in
-    ap placed (q ∙ ap (λ (k : ℕ). take m row ++ drop k (marks .places)) (sym size))
+    let q : marks ≡ take m row ++ drop m (before .marks) = simp (le-ltb (length row) m (omega arith), le-ltb (length (before .marks)) m (omega arith)) at e in
+    ap (λ (places : List ℕ). record { marks = places; served = before .served + 1 }) (q ∙ ap (λ (k : ℕ). take m row ++ drop k (before .marks)) (sym size))
 
 -- ---- what is given
 
-pub given : (f : Pattern) (t marks : List ℕ) (s : Cursors) (client : ℕ) {left after : Cursors} {r : Search} → 1 ≤ f .count
-    → r ≡ searched (earliest f t marks) → after ≡ moved s client (take (f .count) (r .places)) → left ≡ keptBy (r .outcome) s after
-    → _≡_ {A = Served} (record { cursors = left; outcome = r .outcome; places = r .places }) (servedBy Accepted (earliest f t marks) s client)
-given f t marks s client {left} {after} {r} slots found a l = go (earliest f t marks) refl
+same-client : (s : Cursors) (client : ℕ) → withClient s client (clientOf s client) ≡ s
+same-client s client = ap (λ (cs : List Client). record { clients = cs }) (set-getD (s .clients) (client - 1) nobody)
+
+pub given : (f : Pattern) (t : List ℕ) (s : Cursors) (client : ℕ) {state : Cursors} {asking left after : Client} {r : Search} → 1 ≤ f .count → asking ≡ clientOf s client
+    → r ≡ searched (nextRow asking f t) → after ≡ moved (take (f .count) (r .places)) asking → left ≡ keptBy (r .outcome) asking after → state ≡ withClient s client left
+    → _≡_ {A = Served} (record { cursors = state; outcome = r .outcome; places = r .places }) (servedBy Accepted (nextRow (clientOf s client) f t) s client)
+given f t s client {state} {asking} {left} {after} {r} slots here found a l w = go (nextRow (clientOf s client) f t) refl
   where
-    go : (o : Option (List ℕ)) → earliest f t marks ≡ o → _≡_ {A = Served} (record { cursors = left; outcome = r .outcome; places = r .places }) (servedBy Accepted (earliest f t marks) s client)
+    go : (o : Option (List ℕ)) → nextRow (clientOf s client) f t ≡ o
+        → _≡_ {A = Served} (record { cursors = state; outcome = r .outcome; places = r .places }) (servedBy Accepted (nextRow (clientOf s client) f t) s client)
     go none e =
-        let q : r ≡ searched none = found ∙ ap searched e in
-        rw (l, e, q)
+        let q : r ≡ searched none = found ∙ ap (λ (c : Client). searched (nextRow c f t)) here ∙ ap searched e in
+        rw (w, l, here, e, q, same-client s client)
     go (some row) e =
-        let q : r ≡ searched (some row) = found ∙ ap searched e in
-        let size : length row ≡ f .count = earliest-some f (plain f t) slots marks row .0 e .hit .size in
-        rw (l, a, e, q, first-sixteen row size)
+        let q : r ≡ searched (some row) = found ∙ ap (λ (c : Client). searched (nextRow c f t)) here ∙ ap searched e in
+        let size : length row ≡ f .count = earliest-some f (plain f t) slots (firstMarks (clientOf s client) f) row .0 e .hit .size in
+        rw (w, l, a, here, e, q, first-sixteen row size)

@@ -1,4 +1,4 @@
-// Four clients that are served occurrences one after the other, each from where it stands (document 01: the editors' desk).
+// Four clients that are served occurrences one after the other, each from where it stands (document 01: the editors' desk; document 02, Job 6).
 use basics::put_row;
 use matching::Outcome;
 use matching::Search;
@@ -11,22 +11,21 @@ ghost use Prim.Native.Nat.{_≤_, _<_};
 ghost use lib.ListN.{length, take};
 ghost use Rattle.pattern.specs.Tests.{inputVerdict};
 ghost use Rattle.pattern.specs.declared.refusal.Verdict.the-variants.{Accepted};
-ghost use Rattle.matching.specs.Searches.{earliest};
 ghost use Rattle.matching.specs.Answers.{searched};
 ghost use Rattle.cursors.specs.Steps.Keeping.{keptBy};
-ghost use Rattle.cursors.specs.Machine.{fresh, marksOver, moved, clientVerdict, nextVerdict, nextServed, rewound};
+ghost use Rattle.cursors.specs.Machine.{fresh, clientOf, withClient, moved, restarted, clientVerdict, nextVerdict, nextRow, nextServed, rewound};
 
-// How far a client has come: one mark for each slot that a pattern may have.
+// One client: its marks, one for each slot that a pattern may have, and how many occurrences it was served (document 01: handed out).
 #[repr(C)]
-pub struct Marks {
-    pub places: [u16; 16],
+pub struct Client {
+    pub marks: [u16; 16],
+    pub served: usize,
 }
 
-// The marks of clients 1 to 4, and how many occurrences were served to all of them (document 01: handed out).
+// Clients 1 to 4.
 #[repr(C)]
 pub struct Cursors {
-    pub marks: [Marks; 4],
-    pub served: usize,
+    pub clients: [Client; 4],
 }
 
 // What a call of `next` gives: the state it leaves, what the search came to and the occurrence it found, as a search gives it.
@@ -55,46 +54,8 @@ fn client_verdict(client: usize) -> Verdict
     Verdict::Accepted
 }
 
-// Tests 1 to 5, 16, 6, 14 and 15, of a pattern, a text of so many words, a client and the number served.
-fn next_verdict(pattern: Pattern, words: usize, client: usize, served: usize) -> Verdict
-    ensures { λ r. ⌜ r ≡ nextVerdict pattern words client served ⌝ }
-{
-    let input = pattern.check_with(words);
-    if let Verdict::Refused(why) = input {
-        return Verdict::Refused(why);
-    }
-    let known = client_verdict(client);
-    if let Verdict::Refused(why) = known {
-        return Verdict::Refused(why);
-    }
-    if Cursors::SERVED <= served {
-        return Verdict::Refused(Refusal::Served);
-    }
-    Verdict::Accepted
-}
-
-// The first occurrence past the first of the marks, as many as the pattern has slots.
-fn seek(marks: Marks, pattern: Pattern, text: &[u16]) -> Search
-    requires { ⌜ inputVerdict pattern (length (now text)) ≡ Accepted ⌝ }
-    ensures { λ r. ⌜ r ≡ searched (earliest pattern (now (text .entry)) (take (pattern .count) (marks .places))) ⌝ }
-{
-    let places = marks.places;
-    let m = pattern.count;
-    first_after(pattern, text, &places[0..m])
-}
-
-// The marks with the first m of the places over their start.
-fn over(marks: Marks, row: [u16; 16], m: usize) -> Marks
-    requires { ⌜ m ≤ 16 ⌝ }
-    ensures { λ r. ⌜ r ≡ marksOver (take m row) marks ⌝ }
-{
-    let mut places = marks.places;
-    put_row(&mut places, &row, m);
-    Marks { places }
-}
-
-// The state that a search leaves.
-fn kept(outcome: Outcome, before: Cursors, after: Cursors) -> Cursors
+// What a search leaves of a client: as it moved where an occurrence was found, else as it was.
+fn kept(outcome: Outcome, before: Client, after: Client) -> Client
     ensures { λ r. ⌜ r ≡ keptBy outcome before after ⌝ }
 {
     match outcome {
@@ -104,44 +65,104 @@ fn kept(outcome: Outcome, before: Cursors, after: Cursors) -> Cursors
     }
 }
 
+impl Client {
+    // The first occurrence past the client's first marks, as many as the pattern has slots.
+    fn seek(self, pattern: Pattern, text: &[u16]) -> Search
+        requires { ⌜ inputVerdict pattern (length (now text)) ≡ Accepted ⌝ }
+        ensures { λ r. ⌜ r ≡ searched (nextRow self pattern (now (text .entry))) ⌝ }
+    {
+        let marks = self.marks;
+        let m = pattern.count;
+        first_after(pattern, text, &marks[0..m])
+    }
+
+    // The client once it was served the first m of the places.
+    fn moved(self, row: [u16; 16], m: usize) -> Self
+        requires { ⌜ (m ≤ 16) × (self .served < 500) ⌝ }
+        ensures { λ r. ⌜ r ≡ moved (take m row) self ⌝ }
+    {
+        let mut marks = self.marks;
+        put_row(&mut marks, &row, m);
+        let served = self.served + 1;
+        Client { marks, served }
+    }
+
+    // The client with its marks set to 0, and its number as it was.
+    fn restarted(self) -> Self
+        ensures { λ r. ⌜ r ≡ restarted self ⌝ }
+    {
+        let marks = [0u16; 16];
+        Client {
+            marks,
+            served: self.served,
+        }
+    }
+}
+
 impl Cursors {
     // How many clients there are (document 01: editors); they are counted from 1.
     pub const CLIENTS: usize = 4;
 
-    // From this number on, nothing is served.
+    // From this number on a client is served nothing.
     pub const SERVED: usize = 500;
 
     // The fresh state.
     pub fn new() -> Self
         ensures { λ r. ⌜ r ≡ fresh ⌝ }
     {
-        let start = Marks { places: [0u16; 16] };
-        Cursors {
-            marks: [start; 4],
+        let start = Client {
+            marks: [0u16; 16],
             served: 0,
+        };
+        Cursors {
+            clients: [start; 4],
         }
     }
 
-    // The state once the client was served the first m of the places.
-    fn moved(self, client: usize, row: [u16; 16], m: usize) -> Self
-        requires { ⌜ (1 ≤ client) × (client ≤ 4) × (m ≤ 16) × (self .served < 500) ⌝ }
-        ensures { λ r. ⌜ r ≡ moved self client (take m row) ⌝ }
+    // The client with this number.
+    fn client_of(self, client: usize) -> Client
+        requires { ⌜ (1 ≤ client) × (client ≤ 4) ⌝ }
+        ensures { λ r. ⌜ r ≡ clientOf self client ⌝ }
     {
         let k = client - 1;
-        let mut all = self.marks;
-        let marks = all[k];
-        all[k] = over(marks, row, m);
-        Cursors {
-            marks: all,
-            served: self.served + 1,
-        }
+        self.clients[k]
     }
 
-    // The next occurrence for the client: the first past its marks, to which they then move.
+    // Tests 1 to 5, 16, 6, 14 and 15, of a client's call with a pattern and a text of so many words.
+    fn next_verdict(self, client: usize, pattern: Pattern, words: usize) -> Verdict
+        ensures { λ r. ⌜ r ≡ nextVerdict pattern words client (clientOf self client .served) ⌝ }
+    {
+        let input = pattern.check_with(words);
+        if let Verdict::Refused(why) = input {
+            return Verdict::Refused(why);
+        }
+        let known = client_verdict(client);
+        if let Verdict::Refused(why) = known {
+            return Verdict::Refused(why);
+        }
+        let calling = self.client_of(client);
+        if Cursors::SERVED <= calling.served {
+            return Verdict::Refused(Refusal::Served);
+        }
+        Verdict::Accepted
+    }
+
+    // The state with this in the client's place.
+    fn with_client(self, client: usize, after: Client) -> Self
+        requires { ⌜ (1 ≤ client) × (client ≤ 4) ⌝ }
+        ensures { λ r. ⌜ r ≡ withClient self client after ⌝ }
+    {
+        let k = client - 1;
+        let mut clients = self.clients;
+        clients[k] = after;
+        Cursors { clients }
+    }
+
+    // The next occurrence for the client: the first past its marks, to which they then move; its number is then one more.
     pub fn next(self, client: usize, pattern: Pattern, text: &[u16]) -> Served
         ensures { λ r. ⌜ r ≡ nextServed self client pattern (now (text .entry)) ⌝ }
     {
-        let verdict = next_verdict(pattern, text.len(), client, self.served);
+        let verdict = self.next_verdict(client, pattern, text.len());
         if let Verdict::Refused(why) = verdict {
             return Served {
                 cursors: self,
@@ -149,20 +170,20 @@ impl Cursors {
                 places: [0u16; 16],
             };
         }
-        let k = client - 1;
-        let marks = self.marks[k];
-        let found = seek(marks, pattern, text);
+        let asking = self.client_of(client);
+        let found = asking.seek(pattern, text);
         let outcome = found.outcome;
         let places = found.places;
-        let after = self.moved(client, places, pattern.count);
+        let after = asking.moved(places, pattern.count);
+        let left = kept(outcome, asking, after);
         Served {
-            cursors: kept(outcome, self, after),
+            cursors: self.with_client(client, left),
             outcome,
             places,
         }
     }
 
-    // The client's marks set to 0, and the number served as it was.
+    // The client's marks set to 0, and its number as it was.
     pub fn rewind(self, client: usize) -> Rewound
         ensures { λ r. ⌜ r ≡ rewound self client ⌝ }
     {
@@ -173,14 +194,9 @@ impl Cursors {
                 verdict: Verdict::Refused(why),
             };
         }
-        let index = client - 1;
-        let mut all = self.marks;
-        all[index] = Marks { places: [0u16; 16] };
+        let before = self.client_of(client);
         Rewound {
-            cursors: Cursors {
-                marks: all,
-                served: self.served,
-            },
+            cursors: self.with_client(client, before.restarted()),
             verdict: Verdict::Accepted,
         }
     }

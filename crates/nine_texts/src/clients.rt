@@ -7,6 +7,7 @@ use crate::score::Score;
 use crate::score::refused;
 use crate::searches::outcome_number;
 use crate::tables::CALLS;
+use cursors::Client;
 use cursors::Cursors;
 use pattern::Pattern;
 use pattern::Verdict;
@@ -53,7 +54,7 @@ fn next(cursors: Cursors, client: usize, pattern: Pattern, text: &[u16]) -> Answ
 }
 
 // Makes the call in a line of the table.
-fn call(cursors: Cursors, line: [usize; 5], pattern: Pattern, text: &[u16]) -> Answer {
+fn call(cursors: Cursors, line: [usize; 8], pattern: Pattern, text: &[u16]) -> Answer {
     if line[0] == 1 {
         return rewind(cursors, line[1]);
     }
@@ -68,20 +69,30 @@ fn given(rows: Rows, r: usize) -> [u16; 16] {
     padded(row(rows, r - 1))
 }
 
-// One call's answer, and the number served then.
-fn check_call(score: Score, line: [usize; 5], rows: Rows, answer: Answer) -> Score {
+// The number that each client was served then.
+fn check_numbers(score: Score, line: [usize; 8], after: Cursors) -> Score {
+    let clients = after.clients;
+    let mut checked = score;
+    for k in 0..4 {
+        checked = checked.number(line[4 + k] as u64, clients[k].served as u64);
+    }
+    checked
+}
+
+// One call's answer, and the numbers served then.
+fn check_call(score: Score, line: [usize; 8], rows: Rows, answer: Answer) -> Score {
     let after = answer.cursors;
     let places = answer.places;
     let expected = given(rows, line[3]);
     let answered = score
         .number(line[2] as u64, answer.number)
         .list(&expected, &places);
-    answered.number(line[4] as u64, after.served as u64)
+    check_numbers(answered, line, after)
 }
 
 // Line i of the table.
-fn line_of(i: usize) -> [usize; 5]
-    requires { ⌜ i < 17 ⌝ }
+fn line_of(i: usize) -> [usize; 8]
+    requires { ⌜ i < 19 ⌝ }
 {
     CALLS[i]
 }
@@ -96,7 +107,7 @@ fn check_calls(
     from: usize,
     to: usize,
 ) -> Score
-    requires { ⌜ to ≤ 17 ⌝ }
+    requires { ⌜ to ≤ 19 ⌝ }
 {
     let mut cursors = start;
     let mut after = score;
@@ -109,17 +120,21 @@ fn check_calls(
     after
 }
 
-// A fresh state that has served so many.
-fn having_served(served: usize) -> Cursors {
+// A fresh state, except that client 3 was served so many.
+fn third_served(served: usize) -> Cursors {
     let fresh = Cursors::new();
-    let marks = fresh.marks;
-    Cursors { marks, served }
+    let mut clients = fresh.clients;
+    clients[2] = Client {
+        marks: [0u16; 16],
+        served,
+    };
+    Cursors { clients }
 }
 
-// Calls from a fresh state, and calls from one that may serve once more.
+// Calls from a fresh state, and calls from one in which client 3 may be served once more.
 pub fn check_clients(score: Score, case: Case, text: &[u16]) -> Score {
     let pattern = case.pattern;
     let rows = case.front;
     let fresh = check_calls(score, rows, pattern, text, Cursors::new(), 0, 12);
-    check_calls(fresh, rows, pattern, text, having_served(499), 12, 17)
+    check_calls(fresh, rows, pattern, text, third_served(499), 12, 19)
 }

@@ -38,7 +38,7 @@ fn check_cursors(score: Score) -> Score {
     let case = case_of(0);
     let words = case.words;
     let text = first(&words, case.length);
-    show(b"cursors on text 1: calls ", 17);
+    show(b"cursors on text 1: calls ", 19);
     let clients = check_clients(score, case, text);
     clients.close(score);
     clients

@@ -102,26 +102,29 @@ pub(crate) const NONE: [[u16; 4]; 9] = [
     [1, 2, 3, 0],
 ];
 
-// Calls of the cursors on text 1: 1 to rewind and 0 for the next occurrence, the client, the answer, the row of the front list that is given, from 1, and the number served then.
+// Calls of the cursors on text 1: 1 to rewind and 0 for the next occurrence, the client, the answer, the row of the front list that is given, from 1,
+// and the number that each of the four was served then.
 // An answer is 1 for an occurrence, 0 for none or for a rewind, and 100,000 and the refusal's number.
-pub(crate) const CALLS: [[usize; 5]; 17] = [
+pub(crate) const CALLS: [[usize; 8]; 19] = [
     // from a fresh state
-    [0, 1, 1, 1, 1],
-    [0, 2, 1, 1, 2],
-    [0, 1, 1, 2, 3],
-    [0, 1, 0, 0, 3],
-    [0, 2, 1, 2, 4],
-    [1, 1, 0, 0, 4],
-    [0, 2, 0, 0, 4],
-    [0, 1, 1, 1, 5],
-    [0, 4, 1, 1, 6],
-    [0, 5, 100014, 0, 6],
-    [0, 0, 100014, 0, 6],
-    [1, 5, 100014, 0, 6],
-    // from a state with 499 served
-    [0, 3, 1, 1, 500],
-    [0, 3, 100015, 0, 500],
-    [0, 5, 100014, 0, 500],
-    [1, 3, 0, 0, 500],
-    [0, 3, 100015, 0, 500],
+    [0, 1, 1, 1, 1, 0, 0, 0],
+    [0, 2, 1, 1, 1, 1, 0, 0],
+    [0, 1, 1, 2, 2, 1, 0, 0],
+    [0, 1, 0, 0, 2, 1, 0, 0],
+    [0, 2, 1, 2, 2, 2, 0, 0],
+    [1, 1, 0, 0, 2, 2, 0, 0],
+    [0, 2, 0, 0, 2, 2, 0, 0],
+    [0, 1, 1, 1, 3, 2, 0, 0],
+    [0, 4, 1, 1, 3, 2, 0, 1],
+    [0, 5, 100014, 0, 3, 2, 0, 1],
+    [0, 0, 100014, 0, 3, 2, 0, 1],
+    [1, 5, 100014, 0, 3, 2, 0, 1],
+    // from a state in which client 3 was served 499
+    [0, 3, 1, 1, 0, 0, 500, 0],
+    [0, 3, 100015, 0, 0, 0, 500, 0],
+    [0, 5, 100014, 0, 0, 0, 500, 0],
+    [1, 3, 0, 0, 0, 0, 500, 0],
+    [0, 3, 100015, 0, 0, 0, 500, 0],
+    [0, 1, 1, 1, 1, 0, 500, 0],
+    [0, 4, 1, 1, 1, 0, 500, 1],
 ];

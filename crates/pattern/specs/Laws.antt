@@ -5,6 +5,7 @@ pub mod Slots
 pub mod Filling
 pub mod Verdicts
 pub mod Accepting
+pub mod Refusing
 pub mod Stated
 pub mod Agree
 pub mod Canonical

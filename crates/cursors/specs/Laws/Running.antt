@@ -25,6 +25,6 @@ machine-from ended = record { answers = refl; state = refl }
 machine-from (nexts e h) = machine-more (ap replyOf e) (ap (λ (r : Served). r .cursors) e) (machine-from h)
 machine-from (rewinds e h) = machine-more (ap (λ r. rewindStep r .reply) e) (ap (λ r. rewindStep r .state) e) (machine-from h)
 
--- For every list of calls from a fresh state, answers and end state are those of the machine (document 01, "The editors' desk").
+-- For every list of calls from a fresh state, answers and end state are those of the machine (document 01, "The editors' desk"; document 02, Job 6).
 pub machine : {calls : List Call} {replies : List Reply} {last : Cursors} → History fresh calls replies last → Machine calls fresh replies last
 machine h = machine-from h

@@ -1,10 +1,10 @@
--- Which of two states is kept after a search.
+-- What a search leaves of a client.
 use Rattle.matching.specs.declared.searches.Outcome.{Outcome}
 use Rattle.matching.specs.declared.searches.Outcome.the-variants.{Found, Absent, Refused as NotSearched}
-use Rattle.cursors.specs.declared.Cursors.{Cursors}
+use Rattle.cursors.specs.declared.Client.{Client}
 
--- the state that a search leaves: the second where it found an occurrence
-abbrev pub keptBy : Outcome → Cursors → Cursors → Cursors
+-- the second where it found an occurrence, else the first
+abbrev pub keptBy : Outcome → Client → Client → Client
 keptBy Found before after = after
 keptBy Absent before after = before
 keptBy (NotSearched why) before after = before

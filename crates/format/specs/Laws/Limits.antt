@@ -1,5 +1,5 @@
 -- The limits of a pattern file are tested on its words as they stand, before repeats are dropped, and 16 never applies.
-use Prim.Native.Nat.{ℕ, _+_, _-_, _≤_, _<_}
+use Prim.Native.Nat.{ℕ, _+_, _≤_, _<_}
 use native.Mathlib.Omega.{arith}
 use mathlib.Core.Path.{_≡_, refl, sym, _∙_, ap}
 use mathlib.Core.Bool.{Bool, true, false}
@@ -19,7 +19,8 @@ use Rattle.pattern.specs.Tests.{limitsVerdict, patternVerdict}
 use Rattle.pattern.specs.Laws.Canonical.{padded-eight}
 use Rattle.pattern.specs.Laws.Accepting.{refused-fine}
 use Rattle.pattern.specs.Laws.Filling.{first-at}
-use Rattle.pattern.specs.Laws.Limits.{Holds, limits-number, verdict-held}
+use Rattle.pattern.specs.Laws.Limits.{Holds, verdict-held}
+use Rattle.pattern.specs.Laws.Refusing.{limits-number}
 use Rattle.basics.specs.Choice.{pick}
 use Rattle.basics.specs.Laws.Collections.{map-at}
 use Rattle.format.specs.Bytes.{ended, field, fields, lines, value}

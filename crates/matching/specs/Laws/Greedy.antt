@@ -34,10 +34,6 @@ module _ {Hit : List ℕ → Type 0} {_≺_ _≼_ : List ℕ → List ℕ → Ty
   run-append start n = step n start
   run-append (step k u) n = step k (run-append u n)
 
-  pub run-hits : {a b : List ℕ} {F : List (List ℕ)} → Run Hit _≺_ _≼_ a F b → Every Hit F
-  run-hits start = none
-  run-hits (step n u) = more (n .hit) (run-hits u)
-
   pub run-done : {a b : List ℕ} {F : List (List ℕ)} → Run Hit _≺_ _≼_ a F b → ((s : List ℕ) → Hit s → b ≺ s → ⊥) → Greedy Hit _≺_ _≼_ a F
   run-done start no-more = done no-more
   run-done (step n u) no-more = next n (run-done u no-more)
@@ -48,9 +44,16 @@ module _ {Hit : List ℕ → Type 0} {_≺_ : List ℕ → List ℕ → Type 0} 
   chain-of none none none = end
   chain-of (more h hs) (more p ps) (more e q) = link h p (chain-of hs e q)
 
+  pub run-chain : {_≼_ : List ℕ → List ℕ → Type 0} {a b : List ℕ} {F : List (List ℕ)} → Run Hit _≺_ _≼_ a F b → Chain Hit _≺_ a F
+  run-chain start = end
+  run-chain (step n u) = link (n .hit) (n .past) (run-chain u)
+
   pub chain-hits : {marks : List ℕ} {S : List (List ℕ)} → Chain Hit _≺_ marks S → Every Hit S
   chain-hits end = none
   chain-hits (link h p c) = more h (chain-hits c)
+
+  pub run-hits : {_≼_ : List ℕ → List ℕ → Type 0} {a b : List ℕ} {F : List (List ℕ)} → Run Hit _≺_ _≼_ a F b → Every Hit F
+  run-hits u = chain-hits (run-chain u)
 
   pub greedy-chain : {_≼_ : List ℕ → List ℕ → Type 0} {marks : List ℕ} {F : List (List ℕ)} → Greedy Hit _≺_ _≼_ marks F → Chain Hit _≺_ marks F
   greedy-chain (done no-more) = end

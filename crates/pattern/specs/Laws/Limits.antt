@@ -2,22 +2,16 @@
 use Prim.Native.Nat.{ℕ, zero, suc, _+_, _≤_, _<_}
 use native.Mathlib.Omega.{arith}
 use native.Mathlib.Decide.{decLt}
-use mathlib.Core.Path.{_≡_, refl, sym, _∙_, ap}
-use mathlib.Core.Bool.{Bool, true, false}
+use mathlib.Core.Path.{_≡_, refl, _∙_, ap}
 use lib.ListN.{length}
-use lib.Dec.{ltb, eqb}
 use borrow.Author.Tests.{lt-ltb}
-use Rattle.pattern.specs.declared.slot.Slot.{Slot}
 use Rattle.pattern.specs.declared.Pattern.{Pattern}
-use Rattle.pattern.specs.declared.refusal.Refusal.{Refusal}
-use Rattle.pattern.specs.declared.refusal.Refusal.the-variants.{SlotCount, WordCount, ZeroWord, Gap, Span}
 use Rattle.pattern.specs.declared.refusal.Verdict.{Verdict}
 use Rattle.pattern.specs.declared.refusal.Verdict.the-variants.{Accepted, Refused}
-use Rattle.pattern.specs.Refusals.{numberOf}
-use Rattle.pattern.specs.Patterns.{lists, slotAt}
+use Rattle.pattern.specs.Patterns.{slotAt}
 use Rattle.pattern.specs.Words.{canonical}
-use Rattle.pattern.specs.Tests.{refuse, andThen, widestGap, fewestWords, slotVerdict, orderVerdict, slotsVerdict, spanVerdict, limitsVerdict, patternVerdict}
-use Rattle.pattern.specs.Laws.Accepting.{WordsRise, refused-fine, slots-accepted, order-accepted, limits-slots, limits-few}
+use Rattle.pattern.specs.Tests.{andThen, slotVerdict, orderVerdict, slotsVerdict, limitsVerdict, patternVerdict}
+use Rattle.pattern.specs.Laws.Accepting.{WordsRise, slots-accepted, order-accepted, limits-slots, limits-few}
 use Rattle.pattern.specs.Laws.Canonical.{canonical-verdict, canonical-rising}
 
 -- ---- a pattern that holds the slots of another
@@ -61,50 +55,3 @@ module _ {g f : Pattern} (H : Holds g f) where
       go : (v : Verdict) → limitsVerdict f ≡ v → andThen v (slotsVerdict orderVerdict g 0 (g .count)) ≡ v
       go (Refused why) e = refl
       go Accepted e = order-held e (limits-slots f e)
-
--- ---- the numbers that the tests 1 to 5 give
-
--- a verdict that refuses with one of these, if at all
-abbrev Early : Verdict → Type 0
-Early v = (why : Refusal) → v ≡ Refused why → numberOf why ≤ 5
-
-refused-is : {a b : Refusal} → Refused a ≡ Refused b → a ≡ b
-refused-is e = cc
-
-early-none : Early Accepted
-early-none why e = absurd (refused-fine (sym e))
-
-early-refuse : (applies : Bool) (here : Refusal) (later : Verdict) → numberOf here ≤ 5 → Early later → Early (refuse applies here later)
-early-refuse true here later h l why e = rw (← (refused-is e)) h
-early-refuse false here later h l why e = l why e
-
-early-then : (v later : Verdict) → Early v → Early later → Early (andThen v later)
-early-then Accepted later h l = l
-early-then (Refused why) later h l = h
-
-early-slot : (k : ℕ) (s : Slot) → Early (slotVerdict k s)
-unfolding slotVerdict
-early-slot k s =
-    early-refuse (ltb (s .count) (fewestWords (s .excluding))) (WordCount k) _ (omega arith)
-    (early-refuse (ltb 8 (s .count)) (WordCount k) _ (omega arith)
-    (early-refuse (lists s 0) (ZeroWord k) _ (omega arith)
-    (early-refuse (ltb (s .high) (s .low)) (Gap k) _ (omega arith)
-    (early-refuse (ltb (widestGap k) (s .high)) (Gap k) Accepted (omega arith) early-none))))
-
-early-slots : (f : Pattern) (n j : ℕ) → Early (slotsVerdict slotVerdict f j n)
-unfolding slotsVerdict
-early-slots f zero j = early-none
-early-slots f (suc n) j = early-then (slotVerdict (j + 1) (slotAt f j)) (slotsVerdict slotVerdict f (j + 1) n) (early-slot (j + 1) (slotAt f j)) (early-slots f n (j + 1))
-
-early-span : (least most : ℕ) → Early (spanVerdict least most)
-unfolding spanVerdict
-early-span least most =
-    early-refuse (eqb least 0) Span _ (omega arith) (early-refuse (ltb most least) Span _ (omega arith) (early-refuse (ltb 20000 most) Span Accepted (omega arith) early-none))
-
--- they refuse with 1 to 5 alone
-pub limits-number : (f : Pattern) (why : Refusal) → limitsVerdict f ≡ Refused why → numberOf why ≤ 5
-unfolding limitsVerdict
-limits-number f =
-    early-refuse (eqb (f .count) 0) SlotCount _ (omega arith)
-    (early-refuse (ltb 16 (f .count)) SlotCount _ (omega arith)
-    (early-then (slotsVerdict slotVerdict f 0 (f .count)) (spanVerdict (f .least) (f .most)) (early-slots f (f .count) 0) (early-span (f .least) (f .most))))
