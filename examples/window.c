@@ -1,17 +1,23 @@
 /*
- * A small concordance window: the count of a split phrase for a pattern file and a text file.
+ * A small concordance window: the count of a split phrase for a pattern file and a text file, and beside each place of
+ * the text how many occurrences start there.
  *
  *   window PATTERN TEXT
  *
- * Prints the count, or the refusal's number and then ends with status 1.
+ * Prints the count and then a line for each place: the place, its word and the number. Where the count or, after it, the
+ * column is refused, it prints the refusal's number and ends with status 1.
  */
 #include "bedbloomer.h"
 
+#include <inttypes.h>
 #include <stdio.h>
 #include <stdlib.h>
 
-/* The most bytes of a file; one byte more is read so that the count sees a longer one. */
-enum { LONGEST = 60000, REFUSED = 100000 };
+enum {
+    LONGEST = 60000, /* the most bytes of a file; one byte more is read so that the count sees a longer one */
+    WORDS = 20000,   /* the most words of a text */
+    REFUSED = 100000 /* what the count adds to a refusal's number */
+};
 
 /* Reads at most LONGEST + 1 bytes of a file: how many. */
 static size_t read_file(const char *name, uint8_t bytes[LONGEST + 1])
@@ -30,6 +36,29 @@ static size_t read_file(const char *name, uint8_t bytes[LONGEST + 1])
     return count;
 }
 
+/* Prints a refusal's number: the status to end with. */
+static int refused(uint32_t number)
+{
+    printf("refused %u\n", number);
+    return 1;
+}
+
+/* Prints how many occurrences start at each place, for files that the count accepts: the status to end with. */
+static int print_starts(const uint8_t *pattern, size_t pattern_bytes, const uint8_t *text, size_t text_bytes)
+{
+    static uint16_t words[WORDS];
+    static uint64_t starts[WORDS];
+    bedbloomer_read_both read = bedbloomer_read_input(pattern, pattern_bytes, text, text_bytes, words, WORDS);
+    bedbloomer_answer column = bedbloomer_starts(read.pattern, words, read.words, starts, WORDS);
+    if (column.number != 0) {
+        return refused(column.number);
+    }
+    for (size_t at = 0; at < column.value; at++) {
+        printf("%zu %u %" PRIu64 "\n", at + 1, words[at], starts[at]);
+    }
+    return 0;
+}
+
 int main(int argc, char **argv)
 {
     static uint8_t pattern[LONGEST + 1];
@@ -42,9 +71,8 @@ int main(int argc, char **argv)
     size_t text_bytes = read_file(argv[2], text);
     uint32_t answer = bedbloomer_count(pattern, pattern_bytes, text, text_bytes);
     if (answer > REFUSED) {
-        printf("refused %u\n", answer - REFUSED);
-        return 1;
+        return refused(answer - REFUSED);
     }
     printf("count %u\n", answer);
-    return 0;
+    return print_starts(pattern, pattern_bytes, text, text_bytes);
 }

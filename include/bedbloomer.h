@@ -170,6 +170,14 @@ bedbloomer_answer bedbloomer_all(bedbloomer_pattern pattern, const uint16_t *tex
 bedbloomer_answer bedbloomer_support(bedbloomer_pattern pattern, const uint16_t *text, size_t text_words);
 bedbloomer_answer bedbloomer_tally(bedbloomer_pattern pattern, const uint16_t *text, size_t text_words);
 
+/*
+ * The column: for each word of the text how many occurrences start there, written to the start of `list` (`list[p - 1]` for
+ * place p); the value is the number of words. The entries after them stay as they are. After 6 the tests are 8, where the
+ * list is shorter than the text, and then 9, as for the tally. A call that is refused writes nothing.
+ */
+bedbloomer_answer bedbloomer_starts(bedbloomer_pattern pattern, const uint16_t *text, size_t text_words, uint64_t *list,
+                                    size_t list_entries);
+
 /* The next occurrence for a client, refused with 15 where it was served 500 or more. */
 bedbloomer_served bedbloomer_next(bedbloomer_cursors cursors, size_t client, bedbloomer_pattern pattern,
                                   const uint16_t *text, size_t text_words);

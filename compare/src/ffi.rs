@@ -87,6 +87,13 @@ extern "C" {
     ) -> Answer;
     fn bedbloomer_support(pattern: Pattern, text: *const u16, text_words: usize) -> Answer;
     fn bedbloomer_tally(pattern: Pattern, text: *const u16, text_words: usize) -> Answer;
+    fn bedbloomer_starts(
+        pattern: Pattern,
+        text: *const u16,
+        text_words: usize,
+        list: *mut u64,
+        list_entries: usize,
+    ) -> Answer;
     fn bedbloomer_next(
         cursors: Cursors,
         client: usize,
@@ -224,6 +231,12 @@ pub fn support(pattern: &Pattern, text: &[u16]) -> Answer {
 pub fn tally(pattern: &Pattern, text: &[u16]) -> Answer {
     // SAFETY: the pointer and the length are one slice's, borrowed during the call, which only reads it.
     unsafe { bedbloomer_tally(*pattern, text.as_ptr(), text.len()) }
+}
+
+/// Writes how many occurrences start at each place: how many words.
+pub fn starts(pattern: &Pattern, text: &[u16], list: &mut [u64]) -> Answer {
+    // SAFETY: each pointer and its length are one slice's; only `list` is written, and it is borrowed mutably.
+    unsafe { bedbloomer_starts(*pattern, text.as_ptr(), text.len(), list.as_mut_ptr(), list.len()) }
 }
 
 /// The next occurrence for a client.

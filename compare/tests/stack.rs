@@ -48,6 +48,18 @@ fn the_tally_needs_little_stack() {
 }
 
 #[test]
+fn the_column_needs_little_stack() {
+    for (run, tally) in runs() {
+        let (answer, sum) = on_small_stack(move || {
+            let mut list = vec![1; WORDS];
+            let answer = ffi::starts(&run, &vec![7; WORDS], &mut list);
+            (answer, list.iter().sum::<u64>())
+        });
+        assert_eq!((answer.number, answer.value, sum), (0, WORDS as u64, tally as u64));
+    }
+}
+
+#[test]
 fn the_full_list_needs_little_stack() {
     for (run, tally) in runs() {
         let answer = on_small_stack(move || ffi::all(&run, &vec![7; WORDS], &mut vec![0; 16 * tally]));

@@ -141,6 +141,19 @@ impl<'a, S: Searcher> Brute<'a, S> {
         answer(self.counted())
     }
 
+    /// Writes how many occurrences start at each place.
+    pub fn starts(&self, list: &mut [u64]) -> Answer {
+        answer(self.searcher().and_then(|searcher| {
+            let Some(start) = list.get_mut(..self.text.len()) else {
+                return refuse(8, 0);
+            };
+            let total = self.counted()?;
+            let column: Vec<u64> = searcher.starts().into_iter().map(|entry| within(entry, total)).collect();
+            start.copy_from_slice(&column);
+            Ok(column.len() as u64)
+        }))
+    }
+
     /// How many occurrences there are, however many.
     pub fn tallied(&self) -> Result<u128, Refusal> {
         let searcher = self.searcher()?;
@@ -169,6 +182,12 @@ pub fn check(pattern: &Pattern, words: usize) -> Answer {
 /// The tests of a pattern alone; the answer's value is 0.
 pub fn check_pattern(pattern: &Pattern) -> Answer {
     answer(test_pattern(pattern).map(|()| 0))
+}
+
+/// The number in 64 bits, which is no greater than this one.
+fn within(number: u128, greatest: u64) -> u64 {
+    assert!(number <= u128::from(greatest), "{number} of {greatest} occurrences start at a place");
+    number as u64
 }
 
 /// Writes rows one after another to the start of a list; if it is too short, refuses with 8 and this place.

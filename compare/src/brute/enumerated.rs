@@ -1,19 +1,20 @@
 //! Searches among all occurrences, written out one by one.
 
 use super::occurrences::occurrences;
-use super::rows::{slot_by_slot, Row, Searcher};
+use super::rows::{grouped, slot_by_slot, Row, Searcher};
 use crate::layout::Pattern;
 
 /// All occurrences of a pattern in a text.
 pub struct Enumerated {
     slots: usize,
+    words: usize,
     rows: Vec<Row>,
 }
 
 impl Enumerated {
     /// Writes out all occurrences of a pattern within the limits in a text within the limits.
     pub fn new(pattern: &Pattern, text: &[u16]) -> Enumerated {
-        Enumerated { slots: pattern.count, rows: occurrences(pattern, text) }
+        Enumerated { slots: pattern.count, words: text.len(), rows: occurrences(pattern, text) }
     }
 
     /// The occurrences.
@@ -49,6 +50,10 @@ impl Searcher for Enumerated {
 
     fn tally(&self) -> u128 {
         self.rows.len() as u128
+    }
+
+    fn starts(&self) -> Vec<u128> {
+        grouped(&self.rows, self.words)
     }
 
     fn all(&self) -> Vec<Row> {

@@ -25,6 +25,8 @@ mod self_tests_excluding;
 #[cfg(test)]
 mod self_tests_merged;
 #[cfg(test)]
+mod self_tests_starts;
+#[cfg(test)]
 mod self_tests_written;
 mod ways;
 mod windowed;

@@ -17,6 +17,9 @@ pub trait Searcher {
     /// How many occurrences there are.
     fn tally(&self) -> u128;
 
+    /// How many occurrences start at each place, one number for each word of the text.
+    fn starts(&self) -> Vec<u128>;
+
     /// All occurrences, first place first, ties by the next slot.
     fn all(&self) -> Vec<Row>;
 }
@@ -33,6 +36,13 @@ pub fn rightmost(searcher: &impl Searcher) -> Vec<Row> {
     let mut rows: Vec<Row> = std::iter::successors(last, |row| searcher.last_before(row)).collect();
     rows.reverse();
     rows
+}
+
+/// How many of the rows start at each of so many places.
+pub fn grouped(rows: &[Row], places: usize) -> Vec<u128> {
+    let mut starts = vec![0; places];
+    rows.iter().for_each(|row| starts[row[0] as usize - 1] += 1);
+    starts
 }
 
 /// A set of rows in rising order: row k has, at each slot, the k-th smallest place.

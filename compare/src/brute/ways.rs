@@ -1,18 +1,20 @@
-//! The tally in long texts: for each first place, the ways to reach each later place of its sentence, slot after slot.
+//! How many occurrences start at each place of long texts: the ways to reach each later place of its sentence, slot
+//! after slot.
 
 use super::occurrences::slots;
 use crate::layout::{Pattern, Slot};
 
-/// How many occurrences there are; below 20,000 · 64^15 < 2^105, so it never overflows.
-pub fn tally(pattern: &Pattern, text: &[u16]) -> u128 {
-    text.split(|&word| word == 0).map(|sentence| tally_in(pattern, sentence)).sum()
+/// How many occurrences start at each place; together below 20,000 · 64^15 < 2^105, so their sum never overflows.
+pub fn starts(pattern: &Pattern, text: &[u16]) -> Vec<u128> {
+    let sentences = text.split(|&word| word == 0);
+    let starts: Vec<Vec<u128>> = sentences.map(|sentence| starts_in(pattern, sentence)).collect();
+    // None starts at the 0 between two sentences.
+    starts.join(&0)
 }
 
-/// How many occurrences there are in one sentence.
-fn tally_in(pattern: &Pattern, sentence: &[u16]) -> u128 {
-    let begins = |first: &usize| fits(&pattern.slots[0], sentence[*first]);
-    let firsts = (0..sentence.len()).filter(begins);
-    firsts.map(|first| tally_from(pattern, &sentence[first..])).sum()
+/// How many occurrences start at each word of one sentence.
+fn starts_in(pattern: &Pattern, sentence: &[u16]) -> Vec<u128> {
+    (0..sentence.len()).map(|first| starts_at(pattern, &sentence[first..])).collect()
 }
 
 /// Whether the slot takes a word of a sentence, which is never 0: it lists just the words that it takes, or just those
@@ -21,8 +23,11 @@ fn fits(slot: &Slot, word: u16) -> bool {
     slot.words[..slot.count].contains(&word) != slot.excluding
 }
 
-/// How many occurrences begin at the first of these words, which the first slot takes.
-fn tally_from(pattern: &Pattern, words: &[u16]) -> u128 {
+/// How many occurrences start at the first of these words, the rest of a sentence.
+fn starts_at(pattern: &Pattern, words: &[u16]) -> u128 {
+    if !fits(&pattern.slots[0], words[0]) {
+        return 0;
+    }
     let mut ways = vec![1];
     for slot in &slots(pattern)[1..] {
         ways = ways_to(slot, &ways, words);

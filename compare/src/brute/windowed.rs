@@ -1,22 +1,32 @@
 //! Searches in long texts: for each first place, a sieve over the places within reach of it.
 
+use std::cell::OnceCell;
+
 use super::bits::{Bits, ROOM};
 use super::occurrences::{is_occurrence, slots};
 use super::rows::{slot_by_slot, Row, Searcher};
-use super::ways::tally;
+use super::ways::starts;
 use crate::layout::{Pattern, Slot};
 
-/// A pattern and a text, and both the other way round for searches from the end.
+/// A pattern and a text, and both the other way round for searches from the end; how many occurrences start at each
+/// place, once that was asked for.
 pub struct Windowed {
     ahead: Sieve,
     mirrored: Sieve,
+    starts: OnceCell<Vec<u128>>,
 }
 
 impl Windowed {
     /// Makes ready for searches of a pattern within the limits in a text within the limits.
     pub fn new(pattern: &Pattern, text: &[u16]) -> Windowed {
         let reversed: Vec<u16> = text.iter().rev().copied().collect();
-        Windowed { ahead: Sieve::new(*pattern, text.to_vec()), mirrored: Sieve::new(mirrored(pattern), reversed) }
+        let (ahead, mirrored) = (Sieve::new(*pattern, text.to_vec()), Sieve::new(mirrored(pattern), reversed));
+        Windowed { ahead, mirrored, starts: OnceCell::new() }
+    }
+
+    /// How many occurrences start at each place.
+    fn column(&self) -> &[u128] {
+        self.starts.get_or_init(|| starts(&self.ahead.pattern, &self.ahead.text))
     }
 
     /// The place that has as many words before it as this one has after it.
@@ -77,7 +87,11 @@ impl Searcher for Windowed {
     }
 
     fn tally(&self) -> u128 {
-        tally(&self.ahead.pattern, &self.ahead.text)
+        self.column().iter().sum()
+    }
+
+    fn starts(&self) -> Vec<u128> {
+        self.column().to_vec()
     }
 
     fn all(&self) -> Vec<Row> {

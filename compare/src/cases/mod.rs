@@ -1,6 +1,7 @@
 //! The cases: tables, and generators of patterns, texts, files and calls.
 
 pub mod clients;
+pub mod columns;
 pub mod conditions;
 pub mod examples;
 pub mod excluding;

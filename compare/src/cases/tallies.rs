@@ -47,6 +47,32 @@ pub fn equal_sentences(sentences: usize) -> Vec<u16> {
     [product(std::array::from_fn(times)), vec![0]].concat().repeat(sentences)
 }
 
+/// A sentence in which 2^64 occurrences of `sixteen_words` start at its first word, and none at any other.
+pub fn power_at_one_place() -> Vec<u16> {
+    let times = |at: usize| match at {
+        0 => 1,
+        1..=11 => 16,
+        _ => 32,
+    };
+    product(std::array::from_fn(times))
+}
+
+/// The same slots with narrower gaps, and a sentence in which 2^64 − 1 occurrences start at its first word, and none at
+/// any other: the gaps leave 15, 17, 257, 641, 65,537 and 6,700,417 ways through 1, 1, 2, 2, 4 and 5 of the slots.
+pub fn one_below_power_at_one_place() -> (Pattern, Vec<u16>) {
+    let mut narrower = sixteen_words();
+    let highs = [(4, 25), (6, 47), (8, 26), (9, 23), (10, 33), (12, 49), (13, 29), (14, 36), (15, 47)];
+    highs.into_iter().for_each(|(at, high)| narrower.slots[at].high = high);
+    (narrower, product([1, 15, 17, 13, 24, 23, 28, 25, 19, 25, 16, 32, 30, 29, 24, 31]))
+}
+
+/// So many slots of which the first takes the word 1 and the others 7, any gaps between them.
+pub fn one_and_sevens(slots: usize) -> Pattern {
+    let mut written = sevens(slots, 0, 63);
+    written[0].2 = Only(&[1]);
+    pattern(ANY_SPAN, &written)
+}
+
 /// Slots that take the word 7, plain and mixed, with gaps 0 to 63, the first number of sevens whose tally is over 64 bits,
 /// and the first number whose tally together with that of a sentence one seven below the former is.
 pub fn thresholds() -> Vec<(Pattern, usize, usize)> {

@@ -24,6 +24,19 @@ pub const LISTS: [(Call, ListCall); 3] =
 /// The searches.
 pub const SEARCHES: [(Call, Search); 2] = [(Call::FirstAfter, ffi::first_after), (Call::LastBefore, ffi::last_before)];
 
+/// The column, with just as many entries lent as the text has words; or the number that it is refused with.
+pub fn column(pattern: &Pattern, text: &[u16]) -> Result<Vec<u64>, u32> {
+    let mut entries = vec![u64::MAX; text.len()];
+    let answer = ffi::starts(pattern, text, &mut entries);
+    match answer.number {
+        0 => {
+            assert_eq!(answer.value, text.len() as u64);
+            Ok(entries)
+        }
+        number => Err(number),
+    }
+}
+
 /// The entries that a list call writes, with so many lent, which is room enough.
 pub fn listed(list: ListCall, pattern: &Pattern, text: &[u16], room: usize) -> Vec<u16> {
     let mut entries = vec![0; room];

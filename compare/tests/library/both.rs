@@ -66,6 +66,34 @@ impl<'a, S: Searcher> Both<'a, S> {
         self.answered(library, brute, Call::Tally);
     }
 
+    /// Compares the column, with lists of every interesting length lent.
+    pub fn column(&mut self) {
+        self.column_rooms().into_iter().for_each(|room| self.column_in(room));
+    }
+
+    /// Lengths for a list of the column: short ones if the text is past its limit, for it is refused with any list.
+    pub fn column_rooms(&self) -> Vec<usize> {
+        let words = self.brute.text.len();
+        if words > 20_000 {
+            return vec![0, 37];
+        }
+        let mut lengths = [vec![0, words + 1], rooms(words)].concat();
+        lengths.sort();
+        lengths.dedup();
+        lengths
+    }
+
+    /// Compares the column with so many entries lent.
+    pub fn column_in(&mut self, room: usize) {
+        let (mut lent, mut expected) = (Lent::numbers(room), Lent::numbers(room));
+        let library = ffi::starts(self.brute.pattern, self.brute.text, lent.part());
+        let brute = self.brute.starts(expected.part());
+        let case = || format!("{} with {room} entries lent", Call::Starts);
+        self.agree(&library, &brute, case);
+        self.agree(&lent, &expected, case);
+        self.run.call(Call::Starts, library.number);
+    }
+
     /// Compares whether a row is an occurrence, and every word of its excerpt.
     pub fn row(&mut self, row: &[u16]) {
         let (pattern, text) = (self.brute.pattern, self.brute.text);
@@ -147,6 +175,7 @@ impl<'a, S: Searcher> Both<'a, S> {
         write_pattern(self.run, self.brute.pattern);
         merge(self.run, self.brute.pattern, self.brute.pattern);
         self.numbers();
+        self.column();
         self.row(marks);
         self.searches(marks);
         self.lists();

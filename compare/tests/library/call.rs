@@ -47,6 +47,7 @@ calls! {
     All = "all",
     Support = "support",
     Tally = "tally",
+    Starts = "starts",
     Next = "next",
     Rewind = "rewind",
 }

@@ -9,7 +9,7 @@ use compare::ffi;
 use compare::layout::Pattern;
 use compare::rng::Rng;
 
-use crate::alone::{listed, LISTS, NUMBERS, SEARCHES};
+use crate::alone::{column, listed, LISTS, NUMBERS, SEARCHES};
 use crate::call::Call;
 use crate::run::Run;
 
@@ -75,6 +75,7 @@ impl Alike<'_> {
         for (call, number) in NUMBERS {
             self.agree(call, |pattern| number(pattern, text), |answer| answer.number);
         }
+        self.agree(Call::Starts, |pattern| column(pattern, text), |column| column.as_ref().err().copied().unwrap_or(0));
         self.lists();
         for _ in 0..3 {
             let marks = any_marks(rng, slots, text.len());

@@ -75,6 +75,7 @@ fn compare(run: &mut Run, rng: &mut Rng, pattern: &Pattern, text: &[u16]) {
     let mut both = Both::new(run, Brute::enumerated(pattern, text));
     both.check();
     both.numbers();
+    both.column_in(rng.pick(&both.column_rooms()));
     both.lists();
     both.all();
     let searcher = both.brute.searcher().expect("small patterns are accepted");

@@ -198,10 +198,11 @@ fn tallies(run: &mut Run) {
     }
 }
 
-/// Compares the count, the tally and the list of all occurrences.
+/// Compares the count, the tally, the column and the list of all occurrences.
 fn counted(run: &mut Run, pattern: &Pattern, text: &[u16]) {
     let mut both = Both::new(run, Brute::windowed(pattern, text));
     both.numbers();
+    both.column();
     both.all();
 }
 
@@ -219,6 +220,7 @@ fn cut_sevens(run: &mut Run, pattern: &Pattern, words: usize, others: usize) {
     for text in &texts {
         let mut both = Both::new(run, Brute::windowed(pattern, text));
         both.tally();
+        both.column();
         both.all();
     }
 }

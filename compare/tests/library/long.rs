@@ -38,7 +38,9 @@ const EXCLUDING: [&[Written]; 3] = [
 pub fn run(run: &mut Run) {
     let mut rng = Rng::new(77);
     let nine = pattern(ANY_SPAN, &sevens(9, 0, 63));
-    Both::new(run, Brute::windowed(&nine, &[7; WORDS])).tally();
+    let mut both = Both::new(run, Brute::windowed(&nine, &[7; WORDS]));
+    both.tally();
+    both.column();
     for stops in [Some(20), Some(2), Some(100), None] {
         for kind in &KINDS {
             let pattern = any_pattern(&mut rng, kind);

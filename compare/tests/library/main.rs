@@ -4,6 +4,8 @@ mod alone;
 mod arranged;
 mod both;
 mod call;
+mod column;
+mod column_totals;
 mod conditions;
 mod damage;
 mod desk;
@@ -40,12 +42,13 @@ use run::Run;
 type Group = (&'static str, fn(&mut Run));
 
 /// All groups.
-const GROUPS: [Group; 17] = [
+const GROUPS: [Group; 18] = [
     ("worked", worked::run),
     ("exhaustive", exhaustive::run),
     ("sentences", sentences::run),
     ("excluding", excluding::run),
     ("conditions", conditions::run),
+    ("column", column::run),
     ("random", random::run),
     ("limits", limits::run),
     ("order", order::run),

@@ -12,6 +12,7 @@ use compare::rng::Rng;
 use crate::alone::{listed, LISTS, NUMBERS};
 use crate::both::Both;
 use crate::call::Call;
+use crate::column;
 use crate::run::Run;
 
 /// What the patterns are like: short, of medium reach, and with more slots.
@@ -102,7 +103,7 @@ fn across(run: &mut Run, pattern: &Pattern, text: &[u16], rows: &[Row]) {
 }
 
 /// Compares the library's answers for two texts with a 0 between them with its answers for each: numbers add up, and
-/// the second text's rows follow on the first's.
+/// the second text's column and rows follow on the first's.
 fn two_texts(run: &mut Run, pattern: &Pattern, text: &[u16], other: &[u16]) {
     let whole = joined(text, other);
     let case = |call: Call| format!("{call}\npattern: {pattern:?}\ntexts with a 0 between: {text:?} {other:?}");
@@ -114,6 +115,7 @@ fn two_texts(run: &mut Run, pattern: &Pattern, text: &[u16], other: &[u16]) {
         run.call(call, library.number);
         *sum = if library.number == 0 { library.value } else { u64::MAX };
     }
+    column::follow_on(run, pattern, text, other);
     for (call, list) in LISTS {
         let rows = if call == Call::All { sums[1] } else { sums[0] };
         if rows <= LISTED {

@@ -69,6 +69,7 @@ fn told(pattern: &Pattern, text: &[u16], marks: &[u16]) -> Vec<(u32, usize)> {
         ffi::all(pattern, text, &mut []),
         ffi::support(pattern, text),
         ffi::tally(pattern, text),
+        ffi::starts(pattern, text, &mut []),
         ffi::write_pattern(pattern, &mut []),
     ];
     let found = [ffi::first_after(pattern, text, marks), ffi::last_before(pattern, text, marks)];
@@ -153,6 +154,7 @@ fn tallies(run: &mut Run) {
                 with_words(&stated.slots[at], if stated.slots[at].excluding { &[9, 8] } else { &[7, 7] });
             let mut both = Both::new(run, Brute::windowed(&stated, &[7; 1_000][..words]));
             both.tally();
+            both.column();
             both.all();
         }
         assert_eq!(ffi::tally(&pattern, &[7; 1_000][..words]).number, 9);

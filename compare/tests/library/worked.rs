@@ -11,6 +11,7 @@ use compare::cases::written::MOST_BYTES;
 use compare::ffi;
 use compare::layout::{Answer, Client, Cursors, Found, LineEnds, Pattern};
 
+use crate::alone::column;
 use crate::both::Both;
 use crate::file_calls;
 use crate::run::Run;
@@ -58,6 +59,8 @@ fn stated(case: &Worked, pattern: &Pattern) {
     assert_eq!(ffi::support(pattern, case.text).value, case.count as u64);
     if let Some(all) = case.all {
         assert_eq!(ffi::tally(pattern, case.text).value, all.len() as u64);
+        let begin = |place: usize| all.iter().filter(|row| row[0] as usize == place).count() as u64;
+        assert_eq!(column(pattern, case.text), Ok((1..=case.text.len()).map(begin).collect()));
     }
     for row in case.all.into_iter().flatten() {
         let length = usize::from(row[row.len() - 1] - row[0] + 1);

@@ -1,9 +1,13 @@
--- What a list of places holds once rows have been written into it.
+-- What a list holds once numbers or rows of places have been written into it.
 use Prim.Native.Nat.{ℕ, _*_}
 use mathlib.Core.List.{List, [], _∷_, _++_}
 use lib.ListN.{length, take, drop}
 use lib.Dec.{ltb}
 use Rattle.basics.specs.Choice.{pick}
+
+-- numbers over the start of the list; the rest of it is as it was
+abbrev pub over : List ℕ → List ℕ → List ℕ
+over l ns = ns ++ drop (length ns) l
 
 -- the first n places of a row over the start of the list, which stays as it was where the row or the list has fewer
 abbrev pub rowOver : ℕ → List ℕ → List ℕ → List ℕ

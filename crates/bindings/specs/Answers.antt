@@ -15,6 +15,8 @@ use Rattle.excerpts.specs.declared.Tested.the-variants.{Yes, No, Refused as Not
 use Rattle.matching.specs.declared.searches.Outcome.{Outcome}
 use Rattle.matching.specs.declared.searches.Outcome.the-variants.{Found as Hit, Absent, Refused as NotSearched}
 use Rattle.matching.specs.declared.searches.Search.{Search}
+use Rattle.counting.specs.declared.starting.Started.{Started}
+use Rattle.counting.specs.declared.starting.Started.the-variants.{Words as Numbered, Refused as NotStarted}
 use Rattle.counting.specs.declared.total.Tallied.{Tallied}
 use Rattle.counting.specs.declared.total.Tallied.the-variants.{Total, Refused as NotTallied}
 use Rattle.merging.specs.declared.Merged.{Merged}
@@ -60,6 +62,11 @@ ofListed (NotListed why) = refused why
 abbrev pub ofTallied : Tallied → Answer
 ofTallied (Total total) = value total
 ofTallied (NotTallied why) = refused why
+
+-- the column: how many words
+abbrev pub ofStarted : Started → Answer
+ofStarted (Numbered n) = value n
+ofStarted (NotStarted why) = refused why
 
 -- a text that was read: how many words
 abbrev pub ofTextRead : TextRead → Answer

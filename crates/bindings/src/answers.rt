@@ -1,3 +1,4 @@
+use counting::Started;
 use cursors::Cursors;
 use excerpts::Tested;
 use format::TextRead;
@@ -8,7 +9,7 @@ use pattern::Refusal;
 use pattern::Verdict;
 use printing::PatternWritten;
 ghost use mathlib.Core.Path.{_≡_};
-ghost use Rattle.bindings.specs.Answers.{refused, value, ofVerdict, ofListed, ofTextRead, ofWritten, ofTested, ofOutcome, withPattern};
+ghost use Rattle.bindings.specs.Answers.{refused, value, ofVerdict, ofListed, ofStarted, ofTextRead, ofWritten, ofTested, ofOutcome, withPattern};
 
 // An answer, or a refusal's number with its place; then the value is 0.
 #[repr(C)]
@@ -107,6 +108,16 @@ pub(crate) fn of_listed(listed: Listed) -> Answer
     match listed {
         Listed::Rows(rows) => value(rows as u64),
         Listed::Refused(why) => refused(why),
+    }
+}
+
+// What the call for the column answered, as numbers.
+pub(crate) fn of_started(started: Started) -> Answer
+    ensures { λ r. ⌜ r ≡ ofStarted started ⌝ }
+{
+    match started {
+        Started::Words(n) => value(n as u64),
+        Started::Refused(why) => refused(why),
     }
 }
 

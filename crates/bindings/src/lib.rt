@@ -23,6 +23,7 @@ pub use files::bedbloomer_write_pattern;
 pub use lists::bedbloomer_all;
 pub use lists::bedbloomer_leftmost;
 pub use lists::bedbloomer_rightmost;
+pub use lists::bedbloomer_starts;
 pub use lists::bedbloomer_support;
 pub use lists::bedbloomer_tally;
 pub use making::bedbloomer_check;

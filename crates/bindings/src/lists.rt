@@ -1,5 +1,6 @@
 use crate::answers::Answer;
 use crate::answers::of_listed;
+use crate::answers::of_started;
 use crate::answers::refused;
 use crate::answers::value;
 use counting::Tallied;
@@ -9,8 +10,8 @@ ghost use lib.ListN.{length};
 ghost use Rattle.pattern.specs.Tests.{inputVerdict};
 ghost use Rattle.matching.specs.Lists.{leftmost};
 ghost use Rattle.matching.specs.Answers.{frontListed, frontWritten, backListed, backWritten, counted};
-ghost use Rattle.counting.specs.Answers.{tallied, allListed, allWritten};
-ghost use Rattle.bindings.specs.Answers.{ofListed, ofTallied};
+ghost use Rattle.counting.specs.Answers.{tallied, allListed, allWritten, started, startsWritten};
+ghost use Rattle.bindings.specs.Answers.{ofListed, ofTallied, ofStarted};
 
 // The front list.
 #[no_mangle]
@@ -61,4 +62,14 @@ pub extern "C" fn bedbloomer_tally(pattern: Pattern, text: &[u16]) -> Answer
         Tallied::Total(total) => value(total),
         Tallied::Refused(why) => refused(why),
     }
+}
+
+// How many occurrences start at each word.
+#[no_mangle]
+pub extern "C" fn bedbloomer_starts(pattern: Pattern, text: &[u16], list: &mut [u64]) -> Answer
+    ensures { λ r. ⌜ r ≡ ofStarted (started pattern (now (text .entry)) (length (now (list .entry)))) ⌝ }
+    ensures { λ _. ⌜ now (list .exit) ≡ startsWritten pattern (now (text .entry)) (now (list .entry)) ⌝ }
+{
+    let started = counting::starts(pattern, text, list);
+    of_started(started)
 }

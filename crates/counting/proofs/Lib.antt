@@ -4,6 +4,7 @@ pub mod Fitting
 pub mod Closing
 pub mod Distances
 pub mod Counting
+pub mod Parting
 pub mod Columns
 pub mod Reaching
 pub mod Tabling

@@ -27,7 +27,7 @@ use Rattle.counting.specs.Steps.Plans.{Handed, unbound}
 use Rattle.counting.specs.Steps.Rows.{size, stopAt}
 use Rattle.counting.specs.Steps.Tables.{rowsOf, rowsAt, Tabled}
 use Rattle.counting.specs.Steps.Walks.{run, put, Leads, Walk, Walked}
-use Rattle.counting.proofs.Columns.{sentenceAt, startAt, stop-sentence, stop-start, from-start, off-fits, starting-off, sentence-rows}
+use Rattle.counting.proofs.Parting.{sentenceAt, startAt, stop-sentence, stop-start, from-start, off-fits, starting-off, sentence-rows}
 use Rattle.counting.proofs.Tabling.{rows-last, rows-step, rows-child}
 
 -- ---- a window's table leads through its rows

@@ -3,7 +3,7 @@ use Prim.Native.Nat.{ℕ, suc, _+_, _-_, _*_, _^_, _≤_, _<_, min}
 use mathlib.Core.List.{List}
 use mathlib.Core.Bool.{Bool, true, false, _&&_}
 use mathlib.Core.Path.{_≡_, refl, sym, ap, _∙_}
-use native.Mathlib.Nat.{sub-self, lt-of-le-of-lt}
+use native.Mathlib.Nat.{sub-self}
 use native.Mathlib.Decide.{ℕ-discrete}
 use native.Mathlib.Omega.{arith}
 use lib.ListN.{length, getD, set, length-set}
@@ -201,5 +201,5 @@ module _ (u : ℕ → ℕ) (n i : ℕ) {s : ℕ} (e : s ≡ total i u 0) (h : i 
   total-more = omega (arith, total-split i 1 (i + 1) u 0 i refl (omega arith))
 
   -- no part is more than the whole
-  pub total-inside : total n u 0 < 2 ^ 128 → s + u i < 2 ^ 128
-  total-inside b = rw total-more (lt-of-le-of-lt (omega (arith, total-split (i + 1) (n - (i + 1)) n u 0 (i + 1) (omega arith) (omega arith))) b)
+  pub total-inside : s + u i ≤ total n u 0
+  total-inside = rw total-more (omega (arith, total-split (i + 1) (n - (i + 1)) n u 0 (i + 1) (omega arith) (omega arith)))

@@ -1,5 +1,6 @@
--- What the calls answer, by the tests of document 01's table in their order.
+-- What the calls answer, by the tests of document 01's table in their order; of the column by document 02.
 use Prim.Native.Nat.{ℕ, _*_}
+use mathlib.Core.Bool.{Bool}
 use mathlib.Core.List.{List}
 use lib.ListN.{length}
 use lib.Dec.{ltb}
@@ -9,20 +10,29 @@ use Rattle.pattern.specs.declared.refusal.Verdict.{Verdict}
 use Rattle.pattern.specs.declared.refusal.Verdict.the-variants.{Accepted}
 use Rattle.pattern.specs.declared.refusal.Verdict.the-variants.{Refused as Turned}
 use Rattle.basics.specs.Choice.{pick}
+use Rattle.basics.specs.Written.{over}
 use Rattle.pattern.specs.Tests.{inputVerdict}
 use Rattle.matching.specs.Occurrences.{occurrences}
 use Rattle.matching.specs.Answers.{filled}
 use Rattle.matching.specs.declared.rows.Listed.{Listed}
 use Rattle.matching.specs.declared.rows.Listed.the-variants.{Rows}
 use Rattle.matching.specs.declared.rows.Listed.the-variants.{Refused as Unlisted}
+use Rattle.counting.specs.declared.starting.Started.{Started}
+use Rattle.counting.specs.declared.starting.Started.the-variants.{Words}
+use Rattle.counting.specs.declared.starting.Started.the-variants.{Refused as Unstarted}
 use Rattle.counting.specs.declared.total.Tallied.{Tallied}
 use Rattle.counting.specs.declared.total.Tallied.the-variants.{Total, Refused}
+use Rattle.counting.specs.Starts.{column}
 
 -- ---- the tally: 9 where the number is over 2 ^ 64 - 1
 
+-- more than 64 bits hold
+abbrev pub tooMany : ℕ → Bool
+tooMany n = ltb 18446744073709551615 n
+
 -- the answer for so many occurrences
 abbrev pub totalOf : ℕ → Tallied
-totalOf n = pick (ltb 18446744073709551615 n) (Refused Tally) (Total n)
+totalOf n = pick (tooMany n) (Refused Tally) (Total n)
 
 -- the same where the tests up to 6 come to the verdict
 abbrev pub talliedAfter : Verdict → ℕ → Tallied
@@ -47,3 +57,28 @@ allListed f t n = listedAfter (inputVerdict f (length t)) (length (occurrences f
 -- the caller's list at the end
 abbrev pub allWritten : Pattern → List ℕ → List ℕ → List ℕ
 allWritten f t l = filled (inputVerdict f (length t)) (f .count) (occurrences f t) l
+
+-- ---- how many occurrences start at each word: 8 where the list is shorter than the text, with the place 0, then 9 as for the tally
+
+-- the answer for so many words and occurrences and a list of `room` numbers, where the tests up to 6 come to the verdict
+abbrev pub startedAfter : Verdict → ℕ → ℕ → ℕ → Started
+startedAfter Accepted words total room = pick (ltb room words) (Unstarted (ListLength 0)) (pick (tooMany total) (Unstarted Tally) (Words words))
+startedAfter (Turned why) words total room = Unstarted why
+
+-- the answer (document 02: hits that start at each word), for a list of `room` numbers
+abbrev pub started : Pattern → List ℕ → ℕ → Started
+started f t room = startedAfter (inputVerdict f (length t)) (length t) (length (occurrences f t)) room
+
+-- with a list that is long enough: the answer for so many words, by the tally's (`starts-like-tally`)
+abbrev pub startedLike : ℕ → Tallied → Started
+startedLike words (Total total) = Words words
+startedLike words (Refused why) = Unstarted why
+
+-- what a list holds by the answer: the column over its start, or all of it as it was
+abbrev pub columnBy : Started → List ℕ → List ℕ → List ℕ
+columnBy (Words n) c l = over l c
+columnBy (Unstarted why) c l = l
+
+-- the caller's list at the end
+abbrev pub startsWritten : Pattern → List ℕ → List ℕ → List ℕ
+startsWritten f t l = columnBy (started f t (length l)) (column f t) l

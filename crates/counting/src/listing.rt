@@ -1,8 +1,9 @@
+use crate::column::count;
 use crate::fits::tabulate;
 use crate::gaps::Outline;
+use crate::halves::too_many;
 use crate::reach::reach_all;
 use crate::sentences::horizons;
-use crate::total::count;
 use crate::walk::walk;
 use crate::window::Window;
 use basics::smaller;
@@ -146,7 +147,7 @@ pub fn all(pattern: Pattern, text: &[u16], list: &mut [u16]) -> Listed
     let mut lasts = [0u16; 20000];
     horizons(text, &mut lasts);
     let total = count(pattern, n, &fits, &lasts);
-    if 0 < total.hi {
+    if too_many(total) {
         return Listed::Refused(Refusal::ListLength(0));
     }
     let rows = total.lo as usize;

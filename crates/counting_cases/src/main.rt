@@ -1,4 +1,6 @@
-// Cases of the tally and of the list of all occurrences at their limits: numbers about 2 ^ 64, and the rows of the widest span.
+// Cases of the tally, of the list of all occurrences and of the column at their limits: numbers about 2 ^ 64, and the rows of the
+// widest span.
+use counting::Started;
 use counting::Tallied;
 use libc::STDOUT_FILENO;
 use matching::Listed;
@@ -82,7 +84,53 @@ fn show_room(pattern: Pattern, text: &[u16], room: usize) {
     }
 }
 
-// Texts of sevens at the limits of the tally and of the list.
+// Writes what the call for the column answers.
+fn show_starts(pattern: Pattern, text: &[u16], list: &mut [u64]) {
+    let answer = counting::starts(pattern, text, list);
+    match answer {
+        Started::Words(n) => {
+            io::write_all(STDOUT_FILENO, b"words ");
+            io::print_decimal(STDOUT_FILENO, n as u64);
+            io::write_all(STDOUT_FILENO, b"\n");
+        }
+        Started::Refused(why) => {
+            show_refusal(why);
+        }
+    }
+}
+
+// Writes a number and a space.
+fn show_number(n: u64) {
+    io::print_decimal(STDOUT_FILENO, n);
+    io::write_all(STDOUT_FILENO, b" ");
+}
+
+// Writes in a line the numbers of words 1, 40, 41, 1000, 1001, 4489 to 4492, 4506 and the one past it.
+fn show_numbers(list: [u64; 4508]) {
+    show_number(list[0]);
+    show_number(list[39]);
+    show_number(list[40]);
+    show_number(list[999]);
+    show_number(list[1000]);
+    show_number(list[4488]);
+    show_number(list[4489]);
+    show_number(list[4490]);
+    show_number(list[4491]);
+    show_number(list[4505]);
+    show_number(list[4506]);
+    io::write_all(STDOUT_FILENO, b"\n");
+}
+
+// Writes what the call for the column answers with a list of `room` nines, and some of the numbers then.
+fn show_column(pattern: Pattern, text: &[u16], room: usize) {
+    let mut list = [9u64; 4508];
+    if room <= 4508 {
+        show_starts(pattern, text, &mut list[..room]);
+    }
+    show_numbers(list);
+}
+
+// Texts of sevens at the limits of the tally, of the list and of the column.
 fn main() {
     let text = [7u16; 4507];
     let wide = sevens(16, 63);
@@ -91,9 +139,15 @@ fn main() {
     let narrow = sevens(16, 10);
     show_tally(narrow, &text[..4506]);
     show_tally(narrow, &text);
+    show_column(narrow, &text[..4506], 4508);
+    show_column(narrow, &text[..4506], 4506);
+    show_column(narrow, &text[..4506], 4505);
+    show_column(narrow, &text, 4508);
+    show_column(narrow, &text, 4506);
     let longest = wide.with_span(961, 961);
     show_tally(longest, &text[..1000]);
     show_room(longest, &text[..1000], 640);
     show_room(longest, &text[..1000], 639);
+    show_column(longest, &text[..1000], 4508);
     show_tally(Pattern::new(), &text);
 }

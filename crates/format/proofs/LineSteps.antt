@@ -12,9 +12,9 @@ use lib.ListN.{length, getD, take, drop, set, drop-of-length-le, length-drop}
 use lib.Seq.{drop-cons, drop-drop, drop-length, paste, paste-suc, take-length}
 use borrow.Author.Tests.{eqb-true, le-ltb, lt-ltb, ltb-false, ltb-true}
 use Rattle.basics.specs.Choice.{pick}
+use Rattle.basics.specs.Written.{over}
 use Rattle.format.specs.Bytes.{cut, decimal, ended, lines, onFirst}
 use Rattle.format.specs.Layouts.{scan}
-use Rattle.format.specs.Texts.{over}
 use Rattle.format.specs.declared.layout.Layout.{Layout}
 use Rattle.format.specs.declared.layout.Layout.the-variants.{Right, Wrong}
 use Rattle.format.specs.declared.reader.Line.{Line}

@@ -12,12 +12,13 @@ use Rattle.pattern.specs.declared.refusal.Refusal.the-variants.{FileLength, Nam
 use Rattle.format.specs.Bytes.{decimal, ended, isNumber, lines, same}
 use Rattle.format.specs.Steps.ValueLines.{told, wordLines}
 use Rattle.format.specs.Names.{wordName}
-use Rattle.format.specs.Texts.{afterName, ofLines, over, refused, textContents, textRead, textWritten, words}
+use Rattle.format.specs.Texts.{afterName, ofLines, refused, textContents, textRead, textWritten, words}
 use Rattle.format.specs.declared.layout.Layout.{Layout}
 use Rattle.format.specs.declared.layout.Layout.the-variants.{Right, Wrong}
 use Rattle.format.specs.declared.reader.Line.{Line}
 use Rattle.format.specs.declared.texts.TextRead.{TextRead}
 use Rattle.format.specs.declared.texts.TextRead.the-variants.{Refused, Words}
+use Rattle.basics.specs.Written.{over}
 use Rattle.basics.specs.Laws.Lending.{tail-is}
 use Rattle.format.proofs.LineSteps.{Closed, Open, closed-ended, closed-lines, open-lines, scan-count}
 

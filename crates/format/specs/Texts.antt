@@ -1,10 +1,11 @@
 -- A text file (document 01: text sheet): the words it holds, or why it is refused.
 use Prim.Native.Nat.{ℕ, _+_}
-use mathlib.Core.List.{List, [], _∷_, _++_, map}
+use mathlib.Core.List.{List, [], _∷_, map}
 use mathlib.Core.Bool.{Bool}
-use lib.ListN.{length, drop}
+use lib.ListN.{length}
 use lib.Dec.{ltb}
 use Rattle.basics.specs.Choice.{pick}
+use Rattle.basics.specs.Written.{over}
 use Rattle.pattern.specs.declared.refusal.Refusal.{Refusal}
 use Rattle.pattern.specs.declared.refusal.Refusal.the-variants.{TextLength, Names, Values, FileLength, WordListLength}
 use Rattle.format.specs.Bytes.{lines, ended, decimal, isNumber, same}
@@ -57,10 +58,6 @@ unfoldable pub textRead : List ℕ → ℕ → TextRead
 textRead s room = pick (ltb 60000 (length s)) (Refused FileLength) (textAnswer (textContents s) room)
 
 -- ---- the caller's list at the end: as it was, or with the words at its start
-
--- the words over the list's start
-abbrev pub over : List ℕ → List ℕ → List ℕ
-over out ws = ws ++ drop (length ws) out
 
 -- the list, by what stands on the lines
 abbrev pub contentsWritten : TextContents → List ℕ → List ℕ

@@ -8,9 +8,10 @@ ghost use mathlib.Core.Path.{_≡_};
 ghost use mathlib.Core.List.{map};
 ghost use Prim.Native.Nat.{_≤_};
 ghost use lib.ListN.{length};
+ghost use Rattle.basics.specs.Written.{over};
 ghost use Rattle.format.specs.Bytes.{lines, decimal};
 ghost use Rattle.format.specs.Steps.ValueLines.{told, wordLines};
-ghost use Rattle.format.specs.Texts.{textRead, textWritten, over};
+ghost use Rattle.format.specs.Texts.{textRead, textWritten};
 ghost use Rattle.format.specs.declared.layout.Layout.the-variants.{Right};
 
 // What reading a text answers: how many words were written, or why none.

@@ -95,6 +95,10 @@ occurrencesIn f v = select (occursIn f v) (rows (f .count) (v .places))
 abbrev pub occurrences : Pattern → List ℕ → List (List ℕ)
 occurrences f t = occurrencesIn f (plain f t)
 
--- those that start at the place p
+-- those of the rows that start at the place p
+abbrev pub startingAt : ℕ → List (List ℕ) → List (List ℕ)
+startingAt p R = select (λ r. eqb (at r 0) p) R
+
+-- of all occurrences, those that start at the place p
 unfoldable pub startingIn : Pattern → View → ℕ → List (List ℕ)
-startingIn f v p = select (λ r. eqb (at r 0) p) (occurrencesIn f v)
+startingIn f v p = startingAt p (occurrencesIn f v)

@@ -4,6 +4,7 @@ use mathlib.Core.List.{List, map}
 use lib.ListN.{length, take}
 use lib.Dec.{ltb}
 use Rattle.basics.specs.Choice.{pick}
+use Rattle.basics.specs.Written.{over}
 use Rattle.pattern.specs.declared.slot.Slot.{Slot}
 use Rattle.pattern.specs.declared.Pattern.{Pattern}
 use Rattle.pattern.specs.declared.refusal.Refusal.the-variants.{ListLength}
@@ -11,7 +12,6 @@ use Rattle.pattern.specs.declared.refusal.Verdict.{Verdict}
 use Rattle.pattern.specs.declared.refusal.Verdict.the-variants.{Accepted, Refused as NotAccepted}
 use Rattle.pattern.specs.Patterns.{stated}
 use Rattle.pattern.specs.Tests.{patternVerdict}
-use Rattle.format.specs.Texts.{over}
 use Rattle.format.specs.Patterns.{SlotLine}
 use Rattle.format.specs.Shown.{closed, fileLines, paperOrder}
 use Rattle.printing.specs.declared.writing.PatternWritten.{PatternWritten}

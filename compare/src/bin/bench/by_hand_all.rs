@@ -1,4 +1,4 @@
-//! The library's tally and its list of all occurrences, written by hand in ordinary safe Rust.
+//! The library's tally, its column and its list of all occurrences, written by hand in ordinary safe Rust.
 
 use compare::layout::{Pattern, Slot};
 use std::mem::swap;
@@ -107,7 +107,17 @@ impl<'a> Input<'a> {
         }
     }
 
+    /// Hands over a window for each sentence, or where the span limits leave rows out, for each first place.
+    fn each_window(&self, take: impl FnMut(&Window)) {
+        if self.unbound() {
+            self.each_sentence(take);
+        } else {
+            self.each_start(take);
+        }
+    }
+
     /// How many rows start in the window at its first index or later, by suffix sums from the last slot to the first.
+    /// Leaves the first slot's sums: how many start at each index or later.
     fn ways(&self, window: &Window, sums: &mut Vec<u128>, next: &mut Vec<u128>) -> u128 {
         let start = window.start;
         let last = self.slots.len() - 1;
@@ -135,16 +145,15 @@ impl<'a> Input<'a> {
         sums[0]
     }
 
-    /// How many occurrences there are.
-    fn total(&self) -> u128 {
+    /// How many occurrences there are. Hands over each window with its first slot's sums.
+    fn total(&self, mut take: impl FnMut(&Window, &[u128])) -> u128 {
         let mut sums = vec![0; self.words + 1];
         let mut next = sums.clone();
         let mut total = 0;
-        if self.unbound() {
-            self.each_sentence(|window| total += self.ways(window, &mut sums, &mut next));
-        } else {
-            self.each_start(|window| total += self.ways(window, &mut sums, &mut next));
-        }
+        self.each_window(|window| {
+            total += self.ways(window, &mut sums, &mut next);
+            take(window, &sums);
+        });
         total
     }
 
@@ -209,29 +218,39 @@ impl Walk<'_> {
 
 /// How many occurrences there are, if that is below 2^64.
 pub fn tally(pattern: &Pattern, text: &[u16]) -> Option<u64> {
-    Input::new(pattern, text).total().try_into().ok()
+    Input::new(pattern, text).total(|_, _| ()).try_into().ok()
+}
+
+/// Writes how many occurrences start at each word, if all together are below 2^64, and says how many words there are.
+pub fn starts(pattern: &Pattern, text: &[u16], list: &mut [u64]) -> Option<u64> {
+    let mut numbers = vec![0; text.len()];
+    let total = Input::new(pattern, text).total(|window, sums| {
+        let width = window.widths[0];
+        let entries = &mut numbers[window.start..window.start + width];
+        for (number, sums) in entries.iter_mut().zip(sums[..=width].windows(2)) {
+            *number = (sums[0] - sums[1]) as u64;
+        }
+    });
+    u64::try_from(total).ok()?;
+    list[..text.len()].copy_from_slice(&numbers);
+    Some(text.len() as u64)
 }
 
 /// Writes all occurrences, if they have room, and says how many there are.
 pub fn all(pattern: &Pattern, text: &[u16], list: &mut [u16]) -> Option<u64> {
     let input = Input::new(pattern, text);
-    let total = input.total();
+    let total = input.total(|_, _| ());
     if ((list.len() / pattern.count) as u128) < total {
         return None;
     }
     let mut table = vec![vec![NONE; text.len() + 1]; pattern.count];
     let mut written = 0;
-    let put = |window: &Window| {
+    input.each_window(|window| {
         input.tabulate(window, &mut table);
         let (slots, table, start) = (input.slots, &table, window.start);
         let mut walk = Walk { slots, table, start, row: [0; 16], list: &mut *list, written };
         walk.go(0, 0, window.widths[0] - 1);
         written = walk.written;
-    };
-    if input.unbound() {
-        input.each_sentence(put);
-    } else {
-        input.each_start(put);
-    }
+    });
     Some(total as u64)
 }

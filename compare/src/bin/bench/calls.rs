@@ -27,6 +27,7 @@ pub enum Call {
     Back,
     Count,
     Tally,
+    Starts,
     All,
     Forward,
     Backward,
@@ -46,6 +47,7 @@ pub struct Given {
 #[derive(Clone, PartialEq)]
 pub struct Lists {
     pub places: Vec<u16>,
+    pub numbers: Vec<u64>,
     pub bytes: Vec<u8>,
     pub made: Option<Pattern>,
 }
@@ -54,6 +56,7 @@ impl Lists {
     /// Sets all entries to 0, and takes the pattern away.
     pub fn clear(&mut self) {
         self.places.fill(0);
+        self.numbers.fill(0);
         self.bytes.fill(0);
         self.made = None;
     }
@@ -66,6 +69,7 @@ impl fmt::Display for Call {
             Call::Back => out.write_str("back list"),
             Call::Count => out.write_str("count"),
             Call::Tally => out.write_str("tally"),
+            Call::Starts => out.write_str("column"),
             Call::All => out.write_str("all"),
             Call::Forward => write!(out, "{SEARCHES} forward searches"),
             Call::Backward => write!(out, "{SEARCHES} backward searches"),
@@ -162,6 +166,7 @@ pub fn library(call: Call, given: &Given, lists: &mut Lists) -> Option<u64> {
         Call::Back => value(ffi::rightmost(pattern, text, list)),
         Call::Count => value(ffi::support(pattern, text)),
         Call::Tally => value(ffi::tally(pattern, text)),
+        Call::Starts => value(ffi::starts(pattern, text, &mut lists.numbers)),
         Call::All => value(ffi::all(pattern, text, list)),
         Call::Forward => Some(searches(call, |p, t, m| places(ffi::first_after(p, t, m)), pattern, text, list)),
         Call::Backward => Some(searches(call, |p, t, m| places(ffi::last_before(p, t, m)), pattern, text, list)),
@@ -179,6 +184,7 @@ pub fn by_hand(call: Call, given: &Given, lists: &mut Lists) -> Option<u64> {
         Call::Back => Some(by_hand::rightmost(pattern, text, list) as u64),
         Call::Count => Some(by_hand::support(pattern, text) as u64),
         Call::Tally => by_hand_all::tally(pattern, text),
+        Call::Starts => by_hand_all::starts(pattern, text, &mut lists.numbers),
         Call::All => by_hand_all::all(pattern, text, list),
         Call::Forward => Some(searches(call, by_hand::first_after, pattern, text, list)),
         Call::Backward => Some(searches(call, by_hand::last_before, pattern, text, list)),
@@ -193,12 +199,13 @@ pub fn room(call: Call, given: &Given) -> Lists {
     let rows = match call {
         Call::Front | Call::Back => text.len(),
         Call::Forward | Call::Backward => SEARCHES,
-        Call::Count | Call::Tally | Call::Write | Call::Merge => 0,
+        Call::Count | Call::Tally | Call::Starts | Call::Write | Call::Merge => 0,
         Call::All => match by_hand_all::tally(pattern, text) {
             Some(rows) if rows < 10_000_000 => rows as usize,
             _ => fail("a case has too many occurrences to list"),
         },
     };
+    let numbers = if call == Call::Starts { text.len() } else { 0 };
     let bytes = if call == Call::Write { MOST_BYTES } else { 0 };
-    Lists { places: vec![0; rows * pattern.count], bytes: vec![0; bytes], made: None }
+    Lists { places: vec![0; rows * pattern.count], numbers: vec![0; numbers], bytes: vec![0; bytes], made: None }
 }

@@ -171,5 +171,9 @@ pub fn cases() -> Vec<Case> {
     cases.push(loose(Kind::Taken { listed: 1, shared: 1 }, 1, 63, Call::Merge));
     cases.push(loose(Kind::Taken { listed: 8, shared: 4 }, 16, 63, Call::Merge));
     cases.push(loose(Kind::Excluded { listed: 6, shared: 4 }, 16, 63, Call::Merge));
+    cases.extend(cross(Call::Starts, &kinds, &[(2, 3), (8, 3)]));
+    cases.extend(cross(Call::Starts, &sentences, &[(2, 3), (8, 3)]));
+    cases.push(loose(Kind::Equal, 16, 3, Call::Starts));
+    cases.push(loose(Kind::Random, 16, 63, Call::Starts));
     cases
 }

@@ -77,6 +77,22 @@ fn against_count() -> Vec<Figure> {
     figures
 }
 
+/// How many times as long as the tally, to which its numbers add up, the column takes.
+fn against_tally() -> Vec<Figure> {
+    let mut figures = Vec::new();
+    for case in cases().into_iter().filter(|case| case.call == Call::Starts) {
+        let (mut ready, words) = case.compared(WORDS);
+        let given = ready.given.clone();
+        let mut lists = room(Call::Tally, &given);
+        let mut tally = || library(Call::Tally, &given, &mut lists);
+        if tally() != words.map(|_| ready.lists.numbers.iter().sum()) {
+            fail(&format!("column and tally differ: {}", case.describe()));
+        }
+        figures.push((rivals(|| ready.library(), tally).ratio, case));
+    }
+    figures
+}
+
 /// How many times as long as with a plain slot of as many words each call takes with an excluding one, for the same rows.
 fn against_plain() -> Vec<Figure> {
     let mut figures = Vec::new();
@@ -127,6 +143,7 @@ pub fn print(all: &[Measured]) {
         Limit::AtMost(500.0),
         tally_times(all),
     );
+    verdict("The column takes at most 1.5 times as long as the tally", Limit::AtMost(1.5), against_tally());
     verdict(
         "With an excluding slot a call takes at most 1.1 times as long as with a plain one of as many words",
         Limit::AtMost(1.1),

@@ -1,7 +1,7 @@
 -- Laws of what holds of every member of a list, and of every two; of a list from its end; of the members that pass a test.
 use Prim.Native.Nat.{ℕ, zero, suc, _+_, _≤_, _<_}
 use native.Mathlib.Omega.{arith}
-use mathlib.Core.Path.{_≡_, refl, sym, ap, subst}
+use mathlib.Core.Path.{_≡_, refl, sym, ap, subst, _∙_}
 use mathlib.Core.Bool.{Bool, true, false}
 use mathlib.Core.List.{List, [], _∷_, _++_, map, reverse, reverseAux, List·Memᴰ, List·Memᴰ·head, List·Memᴰ·tail}
 use lib.ListN.{length, getD}
@@ -170,6 +170,23 @@ module _ {A : Type 0} where
   select-all p none = refl
   select-all p (more {x = x} h e) = rw (h, select-all p e)
 
+  -- none where none passes
+  pub select-none : (p : A → Bool) {xs : List A} → Every (λ x. p x ≡ false) xs → select p xs ≡ []
+  unfolding select keep
+  select-none p none = refl
+  select-none p (more {x = x} h e) = rw (h, select-none p e)
+
+  keep-append : (b : Bool) (x : A) (xs ys : List A) → keep b x (xs ++ ys) ≡ keep b x xs ++ ys
+  unfolding keep
+  keep-append true x xs ys = refl
+  keep-append false x xs ys = refl
+
+  -- of two lists one after the other
+  pub select-append : (p : A → Bool) (xs ys : List A) → select p (xs ++ ys) ≡ select p xs ++ select p ys
+  unfolding select
+  select-append p [] ys = refl
+  select-append p (x ∷ xs) ys = ap (keep (p x) x) (select-append p xs ys) ∙ keep-append (p x) x (select p xs) (select p ys)
+
 -- ---- the list of the images
 
 module _ {A B : Type 0} (h : A → B) where
@@ -188,3 +205,14 @@ module _ {A B : Type 0} (h : A → B) where
   map-at [] d e k l = absurd (omega arith)
   map-at (x ∷ xs) d e zero l = refl
   map-at (x ∷ xs) d e (suc k) l = map-at xs d e k (omega arith)
+
+  keep-map : (b : Bool) (x : A) (xs : List A) → keep b (h x) (map h xs) ≡ map h (keep b x xs)
+  unfolding keep
+  keep-map true x xs = refl
+  keep-map false x xs = refl
+
+  -- the images that pass are those of the members that pass
+  pub select-map : (p : B → Bool) (q : A → Bool) {xs : List A} → Every (λ x. p (h x) ≡ q x) xs → select p (map h xs) ≡ map h (select q xs)
+  unfolding select
+  select-map p q none = refl
+  select-map p q (more {x = x} {xs = xs} e es) = rw (e, select-map p q es) (keep-map (q x) x (select q xs))

@@ -10,6 +10,7 @@ use lib.ListN.{length}
 use borrow.Author.Tests.{le-ltb, ltb-false}
 use Rattle.pattern.specs.Laws.Accepting.{pattern-accepted, refused-fine}
 use Rattle.basics.specs.Choice.{pick}
+use Rattle.basics.specs.Written.{over}
 use Rattle.pattern.specs.Tests.{patternVerdict}
 use Rattle.pattern.specs.declared.Pattern.{Pattern}
 use Rattle.pattern.specs.declared.refusal.Refusal.{Refusal}
@@ -18,7 +19,7 @@ use Rattle.pattern.specs.declared.refusal.Verdict.{Verdict}
 use Rattle.pattern.specs.declared.refusal.Verdict.the-variants.{Refused}
 use Rattle.pattern.specs.declared.refusal.Verdict.the-variants.{Accepted as Fine}
 use Rattle.pattern.specs.Accepted.{Accepted}
-use Rattle.format.specs.Texts.{TextContents, over, textAnswer, textContents, textRead, textWritten, words}
+use Rattle.format.specs.Texts.{TextContents, textAnswer, textContents, textRead, textWritten, words}
 use Rattle.format.specs.Texts.{refused as noWords}
 use Rattle.format.specs.Patterns.{PatternContents, SlotLine, judgedBy, patternContents, patternAnswer, patternRead, refused, refusedPattern, shown, shownPattern}
 use Rattle.format.specs.Shown.{PatternShows, TextShows}

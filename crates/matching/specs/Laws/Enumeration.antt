@@ -2,13 +2,14 @@
 use Prim.Native.Nat.{ℕ, zero, suc, _+_, _≤_, _<_}
 use native.Mathlib.Decide.{ℕ-discrete}
 use native.Mathlib.Omega.{arith}
-use mathlib.Core.Path.{_≡_, refl}
+use mathlib.Core.Path.{_≡_, refl, ap}
 use mathlib.Core.Logic.{_↔_}
 use mathlib.Core.List.{List, [], _∷_, map, List·Memᴰ, List·Memᴰ·head, List·Memᴰ·tail, Memᴰ·append-left, Memᴰ·append-right, Memᴰ·map}
-use lib.ListN.{length}
+use lib.ListN.{length, getD}
 use Rattle.pattern.specs.declared.Pattern.{Pattern}
 use Rattle.matching.specs.Occurrence.{View, OccursIn, at}
 use Rattle.basics.specs.Collections.{Every, Pairwise, none, more}
+use Rattle.basics.specs.Sums.{total, sum}
 use Rattle.matching.specs.Occurrences.{occursIn, places, extend, rows, Lex, here, after, occurrencesIn}
 use Rattle.basics.specs.Laws.Collections.{every-of, every-map, every-mem, every-append, pairwise-append, map-every, map-pairwise, select-every, select-pairwise, select-mem}
 use Rattle.matching.specs.Laws.Tests.{occurs-iff}
@@ -17,6 +18,22 @@ pub places-mem : (p n q : ℕ) → p ≤ q → q < p + n → List·Memᴰ q (pla
 unfolding places
 places-mem p zero q l h = absurd (omega arith)
 places-mem p (suc n) q l h = elim (ℕ-discrete q p) [ yes e ↦ List·Memᴰ·head e | no e ↦ List·Memᴰ·tail (places-mem (suc p) n q (omega arith) (omega arith)) ]
+
+pub places-length : (p n : ℕ) → length (places p n) ≡ n
+unfolding places
+places-length p zero = refl
+places-length p (suc n) = ap suc (places-length (suc p) n)
+
+pub places-at : (p n i : ℕ) → i < n → getD (places p n) i 0 ≡ p + i
+unfolding places
+places-at p zero i h = absurd (omega arith)
+places-at p (suc n) zero h = omega arith
+places-at p (suc n) (suc i) h = omega (arith, places-at (suc p) n i (omega arith))
+
+pub places-sum : (v : ℕ → ℕ) (p n : ℕ) → sum (map v (places p n)) ≡ total n v p
+unfolding sum total places
+places-sum v p zero = refl
+places-sum v p (suc n) = ap (λ (k : ℕ). v p + k) (places-sum v (suc p) n)
 
 extend-mem : {p : ℕ} {ps r : List ℕ} {R : List (List ℕ)} → List·Memᴰ p ps → List·Memᴰ r R → List·Memᴰ (p ∷ r) (extend ps R)
 unfolding extend

@@ -3,7 +3,8 @@ use Prim.Native.Nat.{ℕ}
 use mathlib.Core.Path.{sym, _∙_}
 use lib.ListN.{length, length-replicate}
 use Rattle.counting.specs.Steps.Listings.{PutAll, PutWhole, PutEach}
-use Rattle.counting.proofs.Columns.{long-new, planned}
+use Rattle.counting.proofs.Parting.{planned}
+use Rattle.counting.proofs.Columns.{long-new}
 use borrow.Author.Needs.{needs}
 use Rattle.counting.proofs.listing.put_all.Statement.{statement}
 use Rattle.counting.proofs.listing.put_all.Tie as tie

@@ -9,7 +9,7 @@ use Rattle.counting.specs.Steps.Plans.{planPattern, planView}
 use Rattle.counting.specs.Steps.Rows.{size}
 use Rattle.counting.specs.Steps.Tables.{rowsAt}
 use Rattle.counting.specs.Steps.Walks.{run, Leads, Walk}
-use Rattle.counting.proofs.Columns.{last-inside, startAt, startRun}
+use Rattle.counting.proofs.Parting.{last-inside, startAt, startRun}
 use Rattle.counting.proofs.Distances.{span-some}
 use Rattle.counting.proofs.Listings.{leading, startRows, start-rows, Listing, listing-begin, listing-skip, window-walk, listing-more, listing-done}
 use borrow.Author.Needs.{needs}

@@ -9,7 +9,7 @@ use Rattle.counting.specs.Steps.Plans.{planPattern, planView}
 use Rattle.counting.specs.Steps.Rows.{size}
 use Rattle.counting.specs.Steps.Tables.{rowsAt}
 use Rattle.counting.specs.Steps.Walks.{run, Leads, Walk}
-use Rattle.counting.proofs.Columns.{last-inside, sentenceAt, sentenceRun}
+use Rattle.counting.proofs.Parting.{last-inside, sentenceAt, sentenceRun}
 use Rattle.counting.proofs.Listings.{leading, startRows, sentence-runs, Listing, listing-begin, window-walk, listing-more, listing-done}
 use borrow.Author.Needs.{needs}
 use Rattle.counting.proofs.listing.put_whole.Statement.{statement}

@@ -1,11 +1,11 @@
--- `counting::total::column` meets its contract: either way fills the column.
+-- `counting::column::fill` meets its contract: either way fills the column.
 use native.Mathlib.Omega.{arith}
 use mathlib.Core.Path.{sym, _∙_}
-use Rattle.counting.proofs.Columns.{planned}
+use Rattle.counting.proofs.Parting.{planned}
 use Rattle.counting.proofs.Distances.{span-some, span-few}
 use borrow.Author.Needs.{needs}
-use Rattle.counting.proofs.total.column.Statement.{statement}
-use Rattle.counting.proofs.total.column.Tie as tie
+use Rattle.counting.proofs.column.fill.Statement.{statement}
+use Rattle.counting.proofs.column.fill.Tie as tie
 
 -- ---- the places of the body, from each back to one before
 
@@ -73,8 +73,8 @@ same-length-4 c = each-at c .each .kept .1 .1 .1 .1 .1 .1 .1 .1 .1 .1 .0
 returns-2 : tie.Need-returns-2
 returns-2 c = λ k. let w = each-at c in let o = outline-at (bound-at (w .before) .before) .of .ensures in w .each .ensures (planned k o) (o .shortest) (o .widest)
 
-pub column-spec : {M : Type 1} → statement M
-column-spec =
+pub fill-spec : {M : Type 1} → statement M
+fill-spec =
     tie.close
     (tie.spec
     of-requires

@@ -1,4 +1,4 @@
--- `counting::total::whole` meets its contract. The invariant: the column is done for the sentences passed.
+-- `counting::column::whole` meets its contract. The invariant: the column is done for the sentences passed.
 use Prim.Native.Nat.{_-_, _≤_, _<_}
 use native.Mathlib.Omega.{arith}
 use mathlib.Core.Bool.{true}
@@ -7,10 +7,11 @@ use lib.ListN.{length}
 use borrow.Rule.Slice.PartMut.{same-len-mid}
 use Rattle.basics.specs.Laws.Lending.{tail-length, mid-is}
 use Rattle.counting.specs.Steps.Plans.{Parted, planPattern, planView, unbound}
-use Rattle.counting.proofs.Columns.{last-inside, sentenceRun, Filled, filled-begin, filled-more, column-done}
+use Rattle.counting.proofs.Parting.{last-inside, sentenceRun}
+use Rattle.counting.proofs.Columns.{Filled, filled-begin, filled-more, column-done}
 use borrow.Author.Needs.{needs}
-use Rattle.counting.proofs.total.whole.Statement.{statement}
-use Rattle.counting.proofs.total.whole.Tie as tie
+use Rattle.counting.proofs.column.whole.Statement.{statement}
+use Rattle.counting.proofs.column.whole.Tie as tie
 
 abbrev Inv-loop : tie.InvT-loop
 Inv-loop low high m reach fits lasts n hi₀ lo₀ i₀ hi lo i = (length hi ≡ length hi₀) × (length lo ≡ length lo₀)

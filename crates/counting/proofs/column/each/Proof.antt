@@ -1,14 +1,15 @@
--- `counting::total::each` meets its contract. The invariant: the column is done for the places passed.
+-- `counting::column::each` meets its contract. The invariant: the column is done for the places passed.
 use Prim.Native.Nat.{_-_, _≤_, _<_}
 use native.Mathlib.Omega.{arith}
 use mathlib.Core.Path.{_≡_, refl, _∙_}
 use lib.ListN.{length}
 use Rattle.matching.specs.Spans.{width}
 use Rattle.counting.specs.Steps.Plans.{Parted, planPattern, planView}
-use Rattle.counting.proofs.Columns.{last-inside, startRun, Filling, filling-begin, filling-more, filling-skip, column-done}
+use Rattle.counting.proofs.Parting.{last-inside, startRun}
+use Rattle.counting.proofs.Columns.{Filling, filling-begin, filling-more, filling-skip, column-done}
 use borrow.Author.Needs.{needs}
-use Rattle.counting.proofs.total.each.Statement.{statement}
-use Rattle.counting.proofs.total.each.Tie as tie
+use Rattle.counting.proofs.column.each.Statement.{statement}
+use Rattle.counting.proofs.column.each.Tie as tie
 
 abbrev Inv-loop : tie.InvT-loop
 Inv-loop low high m reach fits lasts n least span hi₀ lo₀ x₀ y₀ i₀ hi lo x y i = (length x ≡ 1000) × (length y ≡ 1000) × (i ≤ n) × (length hi ≡ length hi₀) × (length lo ≡ length lo₀)

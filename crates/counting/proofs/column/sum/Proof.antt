@@ -1,13 +1,14 @@
--- `counting::total::sum` meets its contract. The invariant: s is the sum of the numbers passed.
+-- `counting::column::sum` meets its contract. The invariant: s is the sum of the numbers passed.
 use Prim.Native.Nat.{_-_, _≤_}
+use native.Mathlib.Nat.{lt-of-le-of-lt}
 use native.Mathlib.Omega.{arith}
 use mathlib.Core.Path.{_≡_, refl, _∙_}
 use Rattle.basics.specs.Sums.{total}
 use Rattle.counting.specs.Steps.Numbers.{value, val}
 use Rattle.counting.proofs.Loops.{total-more, total-inside}
 use borrow.Author.Needs.{needs}
-use Rattle.counting.proofs.total.sum.Statement.{statement}
-use Rattle.counting.proofs.total.sum.Tie as tie
+use Rattle.counting.proofs.column.sum.Statement.{statement}
+use Rattle.counting.proofs.column.sum.Tie as tie
 
 abbrev Inv-loop : tie.InvT-loop
 Inv-loop n hi lo s₀ i₀ s i = (i ≤ n) × (value s ≡ total i (val hi lo) 0)
@@ -43,7 +44,7 @@ add-requires : tie.Need-add-requires Inv-loop μ-loop
 unfolding val
 add-requires c κs =
     let i = turn c in
-    total-inside _ _ (i .before .loop .i) (i .before .loop .inv .1) (i .loop-test .taken) (start (i .before) .pre .1)
+    lt-of-le-of-lt (total-inside _ _ (i .before .loop .i) (i .before .loop .inv .1) (i .loop-test .taken)) (start (i .before) .pre .1)
 
 add-i : tie.Need-add-i Inv-loop μ-loop
 add-i c = search needs
