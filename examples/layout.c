@@ -28,6 +28,12 @@ FIELD(bedbloomer_answer, number, 0);
 FIELD(bedbloomer_answer, place, 8);
 FIELD(bedbloomer_answer, value, 16);
 
+SIZE(bedbloomer_total, 32);
+FIELD(bedbloomer_total, number, 0);
+FIELD(bedbloomer_total, place, 8);
+FIELD(bedbloomer_total, high, 16);
+FIELD(bedbloomer_total, low, 24);
+
 SIZE(bedbloomer_made, 544);
 FIELD(bedbloomer_made, number, 0);
 FIELD(bedbloomer_made, place, 8);

@@ -1,11 +1,12 @@
 /*
- * A small concordance window: the count of a split phrase for a pattern file and a text file, and beside each place of
- * the text how many occurrences start there.
+ * A small concordance window: the count of a split phrase for a pattern file and a text file, the number of all its
+ * occurrences, and beside each place of the text how many of them start there.
  *
  *   window PATTERN TEXT
  *
- * Prints the count and then a line for each place: the place, its word and the number. Where the count or, after it, the
- * column is refused, it prints the refusal's number and ends with status 1.
+ * Prints the count, the tally and then a line for each place: the place, its word and how many start there. The tally and
+ * these numbers are printed as two halves, high first. Where a call is refused, it prints the refusal's number and ends with
+ * status 1.
  */
 #include "bedbloomer.h"
 
@@ -43,18 +44,23 @@ static int refused(uint32_t number)
     return 1;
 }
 
-/* Prints how many occurrences start at each place, for files that the count accepts: the status to end with. */
-static int print_starts(const uint8_t *pattern, size_t pattern_bytes, const uint8_t *text, size_t text_bytes)
+/* Prints the tally and how many occurrences start at each place, for files that the count accepts: the status to end with. */
+static int print_tally(const uint8_t *pattern, size_t pattern_bytes, const uint8_t *text, size_t text_bytes)
 {
     static uint16_t words[WORDS];
-    static uint64_t starts[WORDS];
+    static uint64_t starts[2 * WORDS];
     bedbloomer_read_both read = bedbloomer_read_input(pattern, pattern_bytes, text, text_bytes, words, WORDS);
-    bedbloomer_answer column = bedbloomer_starts(read.pattern, words, read.words, starts, WORDS);
+    bedbloomer_total tally = bedbloomer_tally(read.pattern, words, read.words);
+    if (tally.number != 0) {
+        return refused(tally.number);
+    }
+    printf("tally %" PRIu64 " %" PRIu64 "\n", tally.high, tally.low);
+    bedbloomer_answer column = bedbloomer_starts(read.pattern, words, read.words, starts, 2 * WORDS);
     if (column.number != 0) {
         return refused(column.number);
     }
     for (size_t at = 0; at < column.value; at++) {
-        printf("%zu %u %" PRIu64 "\n", at + 1, words[at], starts[at]);
+        printf("%zu %u %" PRIu64 " %" PRIu64 "\n", at + 1, words[at], starts[2 * at], starts[2 * at + 1]);
     }
     return 0;
 }
@@ -74,5 +80,5 @@ int main(int argc, char **argv)
         return refused(answer - REFUSED);
     }
     printf("count %u\n", answer);
-    return print_starts(pattern, pattern_bytes, text, text_bytes);
+    return print_tally(pattern, pattern_bytes, text, text_bytes);
 }

@@ -50,6 +50,16 @@ typedef struct {
     uint64_t value;
 } bedbloomer_answer;
 
+/*
+ * A number of occurrences in two halves, high times 2^64 plus low, or a refusal with its place; then both halves are 0.
+ */
+typedef struct {
+    uint32_t number;
+    size_t place;
+    uint64_t high;
+    uint64_t low;
+} bedbloomer_total;
+
 /* A pattern, beside a refusal with its place or 0 0. */
 typedef struct {
     uint32_t number;
@@ -166,14 +176,15 @@ bedbloomer_answer bedbloomer_rightmost(bedbloomer_pattern pattern, const uint16_
 bedbloomer_answer bedbloomer_all(bedbloomer_pattern pattern, const uint16_t *text, size_t text_words, uint16_t *list,
                                  size_t list_entries);
 
-/* The count and the tally. */
+/* The count, and the tally: the number of all occurrences. The tally is never refused with 9. */
 bedbloomer_answer bedbloomer_support(bedbloomer_pattern pattern, const uint16_t *text, size_t text_words);
-bedbloomer_answer bedbloomer_tally(bedbloomer_pattern pattern, const uint16_t *text, size_t text_words);
+bedbloomer_total bedbloomer_tally(bedbloomer_pattern pattern, const uint16_t *text, size_t text_words);
 
 /*
- * The column: for each word of the text how many occurrences start there, written to the start of `list` (`list[p - 1]` for
- * place p); the value is the number of words. The entries after them stay as they are. After 6 the tests are 8, where the
- * list is shorter than the text, and then 9, as for the tally. A call that is refused writes nothing.
+ * The column: for each word of the text how many occurrences start there, in two halves, written to the start of `list`: for
+ * place p the high half to `list[2 * p - 2]`, the low half to `list[2 * p - 1]`. The value is the number of words. The
+ * entries after these halves stay as they are. After 6 the test is 8, where the list is shorter than two numbers for each
+ * word; 9 is never given. A call that is refused writes nothing.
  */
 bedbloomer_answer bedbloomer_starts(bedbloomer_pattern pattern, const uint16_t *text, size_t text_words, uint64_t *list,
                                     size_t list_entries);

@@ -6,7 +6,7 @@
 //! for any numbers in them. A mark is 0 or 1 on both sides: Rust's `bool` is C's. The stack is the caller's business:
 //! `tests/stack.rs` has threads of the size stated.
 
-use crate::layout::{Answer, Cursors, Excerpted, Found, LineEnds, Made, Pattern, ReadBoth, Served};
+use crate::layout::{Answer, Cursors, Excerpted, Found, LineEnds, Made, Pattern, ReadBoth, Served, Total};
 
 extern "C" {
     fn bedbloomer_count(pattern: *const u8, pattern_bytes: usize, text: *const u8, text_bytes: usize) -> u32;
@@ -86,7 +86,7 @@ extern "C" {
         list_entries: usize,
     ) -> Answer;
     fn bedbloomer_support(pattern: Pattern, text: *const u16, text_words: usize) -> Answer;
-    fn bedbloomer_tally(pattern: Pattern, text: *const u16, text_words: usize) -> Answer;
+    fn bedbloomer_tally(pattern: Pattern, text: *const u16, text_words: usize) -> Total;
     fn bedbloomer_starts(
         pattern: Pattern,
         text: *const u16,
@@ -228,7 +228,7 @@ pub fn support(pattern: &Pattern, text: &[u16]) -> Answer {
 }
 
 /// The tally.
-pub fn tally(pattern: &Pattern, text: &[u16]) -> Answer {
+pub fn tally(pattern: &Pattern, text: &[u16]) -> Total {
     // SAFETY: the pointer and the length are one slice's, borrowed during the call, which only reads it.
     unsafe { bedbloomer_tally(*pattern, text.as_ptr(), text.len()) }
 }

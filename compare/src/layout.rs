@@ -32,6 +32,16 @@ pub struct Answer {
     pub value: u64,
 }
 
+/// A number of occurrences in two halves, or a refusal with its place.
+#[repr(C)]
+#[derive(Clone, Copy, Debug, PartialEq, Eq)]
+pub struct Total {
+    pub number: u32,
+    pub place: usize,
+    pub high: u64,
+    pub low: u64,
+}
+
 /// A pattern, beside a refusal with its place or 0 0.
 #[repr(C)]
 #[derive(Clone, Copy, Debug, PartialEq, Eq)]
@@ -118,6 +128,7 @@ macro_rules! laid_out {
 laid_out!(Slot, 32, { words: 0, count: 16, low: 24, high: 26, excluding: 28 });
 laid_out!(Pattern, 528, { slots: 0, count: 512, least: 520, most: 522 });
 laid_out!(Answer, 24, { number: 0, place: 8, value: 16 });
+laid_out!(Total, 32, { number: 0, place: 8, high: 16, low: 24 });
 laid_out!(Made, 544, { number: 0, place: 8, pattern: 16 });
 laid_out!(ReadBoth, 552, { number: 0, place: 8, words: 16, pattern: 24 });
 laid_out!(LineEnds, 16, { end: 0, next: 8 });

@@ -3,5 +3,6 @@
 pub mod brute;
 pub mod cases;
 pub mod ffi;
+pub mod halves;
 pub mod layout;
 pub mod rng;

@@ -9,6 +9,7 @@ use compare::cases::written::{longest, MOST_BYTES};
 use compare::cases::Words::{But, Only};
 use compare::cases::{alike, pattern, ANY_SPAN};
 use compare::ffi;
+use compare::halves::{sum, wholes};
 use compare::layout::Pattern;
 
 /// How much stack a call may need, in bytes.
@@ -43,7 +44,7 @@ const COUNT: usize = WORDS - 15;
 fn the_tally_needs_little_stack() {
     for (run, tally) in runs() {
         let answer = on_small_stack(move || ffi::tally(&run, &vec![7; WORDS]));
-        assert_eq!((answer.number, answer.value), (0, tally as u64));
+        assert_eq!((answer.number, answer.high, answer.low), (0, 0, tally as u64));
     }
 }
 
@@ -51,11 +52,11 @@ fn the_tally_needs_little_stack() {
 fn the_column_needs_little_stack() {
     for (run, tally) in runs() {
         let (answer, sum) = on_small_stack(move || {
-            let mut list = vec![1; WORDS];
+            let mut list = vec![1; 2 * WORDS];
             let answer = ffi::starts(&run, &vec![7; WORDS], &mut list);
-            (answer, list.iter().sum::<u64>())
+            (answer, sum(&wholes(&list)))
         });
-        assert_eq!((answer.number, answer.value, sum), (0, WORDS as u64, tally as u64));
+        assert_eq!((answer.number, answer.value, sum), (0, WORDS as u64, tally as u128));
     }
 }
 

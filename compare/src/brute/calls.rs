@@ -4,10 +4,11 @@ use std::cell::OnceCell;
 
 use super::limits::{test_pattern, test_text};
 use super::occurrences::{failed, is_occurrence};
-use super::refusal::{answer, refuse, Refusal};
+use super::refusal::{answer, refuse, total, Refusal};
 use super::rows::{leftmost, rightmost, Row, Searcher};
 use super::{cursors, Enumerated, Windowed};
-use crate::layout::{Answer, Cursors, Excerpted, Found, Pattern, Served};
+use crate::halves::halved;
+use crate::layout::{Answer, Cursors, Excerpted, Found, Pattern, Served, Total};
 
 /// A pattern and a text, with a way to search them if both are within the limits.
 pub struct Brute<'a, S> {
@@ -137,32 +138,26 @@ impl<'a, S: Searcher> Brute<'a, S> {
     }
 
     /// The tally.
-    pub fn tally(&self) -> Answer {
-        answer(self.counted())
+    pub fn tally(&self) -> Total {
+        total(self.tallied())
     }
 
-    /// Writes how many occurrences start at each place.
+    /// Writes how many occurrences start at each place, in two halves, and answers how many words there are.
     pub fn starts(&self, list: &mut [u64]) -> Answer {
         answer(self.searcher().and_then(|searcher| {
-            let Some(start) = list.get_mut(..self.text.len()) else {
+            let words = self.text.len();
+            let Some(start) = list.get_mut(..2 * words) else {
                 return refuse(8, 0);
             };
-            let total = self.counted()?;
-            let column: Vec<u64> = searcher.starts().into_iter().map(|entry| within(entry, total)).collect();
-            start.copy_from_slice(&column);
-            Ok(column.len() as u64)
+            start.copy_from_slice(&halved(&searcher.starts()));
+            Ok(words as u64)
         }))
     }
 
-    /// How many occurrences there are, however many.
+    /// How many occurrences there are.
     pub fn tallied(&self) -> Result<u128, Refusal> {
         let searcher = self.searcher()?;
         Ok(*self.tally.get_or_init(|| searcher.tally()))
-    }
-
-    /// The tally, or why there is none.
-    pub fn counted(&self) -> Result<u64, Refusal> {
-        u64::try_from(self.tallied()?).or_else(|_| refuse(9, 0))
     }
 
     /// The next occurrence for a client, and the state after it.
@@ -182,12 +177,6 @@ pub fn check(pattern: &Pattern, words: usize) -> Answer {
 /// The tests of a pattern alone; the answer's value is 0.
 pub fn check_pattern(pattern: &Pattern) -> Answer {
     answer(test_pattern(pattern).map(|()| 0))
-}
-
-/// The number in 64 bits, which is no greater than this one.
-fn within(number: u128, greatest: u64) -> u64 {
-    assert!(number <= u128::from(greatest), "{number} of {greatest} occurrences start at a place");
-    number as u64
 }
 
 /// Writes rows one after another to the start of a list; if it is too short, refuses with 8 and this place.

@@ -23,6 +23,8 @@ mod self_tests_cursors;
 #[cfg(test)]
 mod self_tests_excluding;
 #[cfg(test)]
+mod self_tests_great;
+#[cfg(test)]
 mod self_tests_merged;
 #[cfg(test)]
 mod self_tests_starts;

@@ -4,6 +4,7 @@ use super::calls::Brute;
 use super::files::{read_both, read_pattern, read_text, test_bytes};
 use super::refusal::{refuse, Refusal};
 use super::rows::Row;
+use crate::halves::halves;
 
 /// The count for a pattern file and a text file, or 100,000 plus the refusal's number.
 pub fn count(pattern: &[u8], text: &[u8]) -> u32 {
@@ -40,8 +41,8 @@ fn summary(input: &[u8]) -> Result<String, Refusal> {
     if front.len() * pattern.count > 16_000 {
         return refuse(8, front.len());
     }
-    let tally = brute.counted()?;
-    Ok(format!("count tally\n{} {tally}\n{}", front.len(), table(front, back)))
+    let [high, low] = halves(brute.tallied()?);
+    Ok(format!("count high low\n{} {high} {low}\n{}", front.len(), table(front, back)))
 }
 
 /// The places of both lists, a line for each row and slot.

@@ -8,9 +8,8 @@ use crate::cases::inputs::sevens;
 use crate::cases::lines::small_files;
 use crate::cases::orders::canonical;
 use crate::cases::random::{any_marks, any_pattern, any_text, Kind};
-use crate::cases::sentences::{cut_at, joined, sentences, without_stops};
+use crate::cases::sentences::{cut_at, sentences, without_stops};
 use crate::cases::small::{patterns, texts, tuples};
-use crate::cases::tallies::{equal_sentences, one_below_power, power, sixteen_words, thresholds};
 use crate::cases::worked::{worked_texts, Rows};
 use crate::cases::Words::{But, Only};
 use crate::cases::{pattern, ANY_SPAN};
@@ -91,9 +90,8 @@ fn a_stop_at_each_place() {
         for found in [forward, backward].concat() {
             assert_eq!(found.found, counts);
         }
-        for number in [listed.support(), listed.tally(), sieved.support(), sieved.tally()] {
-            assert_eq!(number.value, counts);
-        }
+        assert_eq!([listed.support().value, sieved.support().value], [counts; 2]);
+        assert_eq!([listed.tallied(), sieved.tallied()], [Ok(counts.into()); 2]);
     }
 }
 
@@ -104,7 +102,7 @@ fn refused(span: &str, slots: &str) -> (u32, usize) {
     (made.number, made.place)
 }
 
-/// The examples in the scope's table of refusals, 1 to 9.
+/// The examples in the scope's table of refusals, 1 to 8.
 #[test]
 fn refusals_of_calls() {
     assert_eq!(check(&pattern_of(1, 20_000), 0).number, 1);
@@ -123,8 +121,6 @@ fn refusals_of_calls() {
     assert_eq!((short.number, short.place), (8, 2));
     let short = brute.all(&mut [0; 5]);
     assert_eq!((short.number, short.place), (8, 0));
-    let wide = pattern(ANY_SPAN, &sevens(16, 0, 63));
-    assert_eq!(Brute::windowed(&wide, &[7; 1000]).tally().number, 9);
 }
 
 /// The examples in the scope's table of refusals, 10 to 13.
@@ -181,26 +177,6 @@ fn ends_of_lines() {
             begun = next;
         }
         assert_eq!(begun, file.len());
-    }
-}
-
-/// The texts made for the tally's limit stand exactly there.
-#[test]
-fn tallies_at_the_limit() {
-    let pattern = sixteen_words();
-    let tallied = |text: &[u16]| Brute::windowed(&pattern, text).tallied();
-    for zeros in [1, 64] {
-        assert_eq!(tallied(&one_below_power(16, zeros)), Ok((1 << 64) - 1));
-        assert_eq!(tallied(&power(16, zeros)), Ok(1 << 64));
-        assert_eq!(tallied(&power(15, zeros)), Ok(1 << 60));
-    }
-    assert_eq!(tallied(&equal_sentences(16)), Ok(1 << 64));
-    assert_eq!(tallied(&[equal_sentences(15), one_below_power(15, 1)].concat()), Ok((1 << 64) - 1));
-    for (pattern, words, others) in thresholds() {
-        let refused = |text: &[u16]| Brute::windowed(&pattern, text).tally().number;
-        let full = vec![7; words - 1];
-        assert_eq!([refused(&full), refused(&vec![7; words])], [0, 9]);
-        assert_eq!([others - 1, others].map(|others| refused(&joined(&full, &vec![7; others]))), [0, 9]);
     }
 }
 

@@ -40,9 +40,8 @@ fn taken_words() {
             let text = [word];
             let (written_out, sieved) = (Brute::enumerated(&slot, &text), Brute::windowed(&slot, &text));
             assert_eq!(written_out.is_occurrence(&[1]).value, times);
-            for number in [written_out.tally(), written_out.support(), sieved.tally(), sieved.support()] {
-                assert_eq!(number.value, times);
-            }
+            assert_eq!([written_out.support().value, sieved.support().value], [times; 2]);
+            assert_eq!([written_out.tallied(), sieved.tallied()], [Ok(times.into()); 2]);
             assert_eq!([written_out.first_after(&[0]).found, sieved.last_before(&[9]).found], [times; 2]);
         }
     }

@@ -1,20 +1,18 @@
-//! Columns in the brute force, how many occurrences start at each place: those written down by hand, its methods against
-//! each other, totals at the limit, and the order of the refusals.
+//! Columns in the brute force, how many occurrences start at each place: those written down by hand, formulas, its methods
+//! against each other, and the order of the refusals.
 
 use super::rows::grouped;
 use super::*;
-use crate::cases::columns::{chosen_sevens, phrases, two_sevens, COLUMNS};
+use crate::cases::columns::{chosen_sevens, gapped_sevens, phrases, two_sevens, COLUMNS};
 use crate::cases::inputs::sevens;
 use crate::cases::orders::canonical;
 use crate::cases::random::{any_pattern, any_text, Kind};
 use crate::cases::sentences::{cut_every, joined};
 use crate::cases::small::{patterns, texts, tuples};
-use crate::cases::tallies::{
-    equal_sentences, one_below_power_at_one_place, power, power_at_one_place, sixteen_words, thresholds,
-};
 use crate::cases::worked::worked_texts;
 use crate::cases::Words::{But, Only};
 use crate::cases::{pattern, ANY_SPAN};
+use crate::halves::halved;
 use crate::layout::{Answer, Pattern};
 use crate::rng::Rng;
 
@@ -30,22 +28,33 @@ fn words(value: usize) -> Answer {
 }
 
 /// Asserts that this column is written, by both methods, also at the start of a longer list, and not of a shorter one.
-fn assert_column(pattern: &Pattern, text: &[u16], column: &[u64]) {
+fn assert_column(pattern: &Pattern, text: &[u16], column: &[u128]) {
     assert_column_by(&Brute::enumerated(pattern, text), column);
     assert_column_by(&Brute::windowed(pattern, text), column);
 }
 
 /// Asserts the same for one method.
-fn assert_column_by(brute: &Brute<impl Searcher>, column: &[u64]) {
-    let length = column.len();
-    let longer = [column, &[length as u64 + 1, length as u64 + 2]].concat();
-    for (room, list) in [(length, column.to_vec()), (length + 2, longer)] {
-        assert_eq!(starts_in(brute, room), (words(length), list), "{:?} {:?}", brute.pattern, brute.text);
+pub fn assert_column_by(brute: &Brute<impl Searcher>, column: &[u128]) {
+    let entries = halved(column);
+    let length = entries.len();
+    let longer = [&entries[..], &[length as u64 + 1, length as u64 + 2]].concat();
+    for (room, list) in [(length, entries), (length + 2, longer)] {
+        assert_eq!(starts_in(brute, room), (words(column.len()), list), "{:?} {:?}", brute.pattern, brute.text);
     }
     for room in 0..length {
         let unchanged = (1..=room as u64).collect();
         assert_eq!(starts_in(brute, room), (Answer { number: 8, place: 0, value: 0 }, unchanged));
     }
+}
+
+/// Two numbers for each word, the high half first, the entries after them as they were.
+#[test]
+fn laid_out() {
+    let pattern = pattern(ANY_SPAN, &sevens(2, 0, 63));
+    let written = starts_in(&Brute::windowed(&pattern, &[7, 7, 8, 7]), 10);
+    assert_eq!(written, (words(4), vec![0, 2, 0, 1, 0, 0, 0, 0, 9, 10]));
+    let short = starts_in(&Brute::windowed(&pattern, &[7, 7, 8, 7]), 7);
+    assert_eq!(short, (Answer { number: 8, place: 0, value: 0 }, vec![1, 2, 3, 4, 5, 6, 7]));
 }
 
 /// The columns found by hand, and the rows that are named for the worked texts.
@@ -56,8 +65,8 @@ fn by_hand() {
     }
     for case in worked_texts() {
         if let Some(rows) = case.all {
-            let begin = |place: usize| rows.iter().filter(|row| row[0] as usize == place).count() as u64;
-            let column: Vec<u64> = (1..=case.text.len()).map(begin).collect();
+            let begin = |place: usize| rows.iter().filter(|row| row[0] as usize == place).count() as u128;
+            let column: Vec<u128> = (1..=case.text.len()).map(begin).collect();
             assert_column(&canonical(&pattern(case.span, case.slots)), case.text, &column);
         }
     }
@@ -76,7 +85,7 @@ fn one_occurrence() {
     }
 }
 
-/// Columns by formulas: two sevens in sentences of sevens, and all choices of some of them.
+/// Columns by formulas: two sevens in sentences of sevens, all choices of some of them, and those with gaps up to a limit.
 #[test]
 fn by_formulas() {
     for every in [2, 3, 5, 12, 99] {
@@ -88,6 +97,11 @@ fn by_formulas() {
     }
     for (slots, words) in [(1, 1), (1, 9), (2, 9), (3, 9), (5, 12), (9, 9), (16, 18), (3, 2)] {
         let (pattern, column) = chosen_sevens(slots, words);
+        assert_column(&pattern, &vec![7; words], &column);
+        assert_eq!(gapped_sevens(slots, 63, words), (pattern, column));
+    }
+    for (slots, high, words) in [(2, 0, 9), (2, 3, 9), (3, 0, 1), (3, 2, 12), (4, 1, 9), (6, 1, 12), (16, 0, 18)] {
+        let (pattern, column) = gapped_sevens(slots, high, words);
         assert_column(&pattern, &vec![7; words], &column);
     }
     let (pattern, column) = chosen_sevens(16, 65);
@@ -103,8 +117,7 @@ fn all_rows_that_pass() {
         for text in texts(&[0, 1, 2], 4).iter().step_by(3) {
             let mut rows = tuples(&(0..=text.len() as u16 + 1).collect::<Vec<_>>(), 3);
             rows.retain(|row| is_occurrence(&pattern, text, row));
-            let column: Vec<u64> = grouped(&rows, text.len()).into_iter().map(|entry| entry as u64).collect();
-            assert_column(&pattern, text, &column);
+            assert_column(&pattern, text, &grouped(&rows, text.len()));
         }
     }
 }
@@ -142,41 +155,7 @@ fn two_texts() {
     }
 }
 
-/// The number that a column is refused with, one entry too few lent and just enough; a refusal writes nothing.
-fn refused(pattern: &Pattern, text: &[u16]) -> [u32; 2] {
-    let brute = Brute::windowed(pattern, text);
-    [text.len() - 1, text.len()].map(|room| {
-        let (answer, list) = starts_in(&brute, room);
-        assert!(answer.number == 0 || list == (1..=room as u64).collect::<Vec<_>>());
-        assert_eq!((answer.place, answer.value), (0, if answer.number == 0 { text.len() as u64 } else { 0 }));
-        answer.number
-    })
-}
-
-/// Totals at the limit: 9 where all entries together pass it, also if each alone does not, and 8 before it.
-#[test]
-fn totals_at_the_limit() {
-    let sixteen = sixteen_words();
-    let entries = |pattern: &Pattern, text: &[u16]| Brute::windowed(pattern, text).searcher().unwrap().starts();
-    let sentence = [vec![1 << 60], vec![0; 241]].concat();
-    assert_eq!(entries(&sixteen, &equal_sentences(16)), sentence.repeat(16));
-    assert_eq!([15, 16].map(|sentences| refused(&sixteen, &equal_sentences(sentences))), [[8, 0], [8, 9]]);
-    assert_eq!([15, 16].map(|parts| refused(&sixteen, &power(parts, 1))), [[8, 0], [8, 9]]);
-    let (narrower, full) = one_below_power_at_one_place();
-    for (pattern, text, entry) in [(&narrower, &full, (1 << 64) - 1), (&sixteen, &power_at_one_place(), 1 << 64)] {
-        let mut column = vec![0; text.len()];
-        column[0] = entry;
-        assert_eq!(entries(pattern, text), column);
-        assert_eq!(refused(pattern, text), [8, if entry < 1 << 64 { 0 } else { 9 }]);
-    }
-    // One occurrence more, at another place.
-    assert_eq!(refused(&narrower, &joined(&full, &(1..=16).collect::<Vec<_>>())), [8, 9]);
-    for (pattern, words, _) in thresholds() {
-        assert_eq!([words - 1, words].map(|words| refused(&pattern, &vec![7; words])), [[8, 0], [8, 9]]);
-    }
-}
-
-/// The pattern's tests come first, 16 the last of them, then 6, 8 and 9.
+/// The pattern's tests come first, 16 the last of them, then 6 and 8; a tally past 64 bits is answered.
 #[test]
 fn order_of_refusals() {
     let wide = pattern(ANY_SPAN, &sevens(16, 0, 63));
@@ -188,11 +167,12 @@ fn order_of_refusals() {
         assert_eq!((answer.value, list), (0, (1..=room as u64).collect()));
         (answer.number, answer.place)
     };
-    let too_short = [(&spanless, (5, 0)), (&unsorted, (16, 5)), (&wide, (6, 0))];
-    for (pattern, refusal) in too_short {
-        assert_eq!([0, 20_000, 20_001, 20_002].map(|room| tested(pattern, 20_001, room)), [refusal; 4]);
+    let too_long = [(&spanless, (5, 0)), (&unsorted, (16, 5)), (&wide, (6, 0))];
+    for (pattern, refusal) in too_long {
+        assert_eq!([0, 20_001, 40_000, 40_002, 40_003].map(|room| tested(pattern, 20_001, room)), [refusal; 5]);
     }
-    assert_eq!([0, 199, 200, 201].map(|room| tested(&wide, 200, room)), [(8, 0), (8, 0), (9, 0), (9, 0)]);
+    assert_eq!([0, 199, 200, 201, 399].map(|room| tested(&wide, 200, room)), [(8, 0); 5]);
+    assert_column_by(&Brute::windowed(&wide, &[7; 200]), &gapped_sevens(16, 63, 200).1);
     assert_eq!(tested(&unsorted, 200, 199), (16, 5));
     assert_eq!(tested(&pattern_of(1, 20_000), 200, 0), (1, 0));
     assert_eq!(tested(&pattern_of(1, 20_000), 0, 0), (1, 0));

@@ -7,7 +7,7 @@ use crate::cases::random::{any_pattern, Kind};
 use crate::cases::written::{longest, LONGEST_FILE, MOST_BYTES, WRITTEN_FILES};
 use crate::cases::Words::{But, Only};
 use crate::cases::{alike, files::usual_pattern_file, pattern, Written, ANY_SPAN};
-use crate::layout::{Answer, Excerpted, Pattern, Slot};
+use crate::layout::{Answer, Excerpted, Pattern, Slot, Total};
 use crate::rng::Rng;
 
 /// The pattern that adding these slots one by one makes.
@@ -146,7 +146,8 @@ fn order_of_sixteen() {
     let brute = Brute::enumerated(&unsorted, &text);
     let refusal = Answer { number: 16, place: 2, value: 0 };
     assert_eq!([check_pattern(&unsorted), write_pattern(&unsorted, &mut [])], [refusal; 2]);
-    assert_eq!([brute.is_occurrence(&[1]), brute.support(), brute.tally()], [refusal; 3]);
+    assert_eq!([brute.is_occurrence(&[1]), brute.support(), brute.starts(&mut [])], [refusal; 3]);
+    assert_eq!(brute.tally(), Total { number: 16, place: 2, high: 0, low: 0 });
     assert_eq!([brute.leftmost(&mut []), brute.rightmost(&mut []), brute.all(&mut [])], [refusal; 3]);
     for found in [brute.first_after(&[0]), brute.last_before(&[9, 9])] {
         assert_eq!((found.number, found.place, found.found), (16, 2, 0));

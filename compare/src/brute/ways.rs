@@ -4,7 +4,7 @@
 use super::occurrences::slots;
 use crate::layout::{Pattern, Slot};
 
-/// How many occurrences start at each place; together below 20,000 · 64^15 < 2^105, so their sum never overflows.
+/// How many occurrences start at each place: at most 64^15, so that together they are below 20,000 · 2^90 < 2^105.
 pub fn starts(pattern: &Pattern, text: &[u16]) -> Vec<u128> {
     let sentences = text.split(|&word| word == 0);
     let starts: Vec<Vec<u128>> = sentences.map(|sentence| starts_in(pattern, sentence)).collect();

@@ -6,6 +6,7 @@ use super::bits::{Bits, ROOM};
 use super::occurrences::{is_occurrence, slots};
 use super::rows::{slot_by_slot, Row, Searcher};
 use super::ways::starts;
+use crate::halves::sum;
 use crate::layout::{Pattern, Slot};
 
 /// A pattern and a text, and both the other way round for searches from the end; how many occurrences start at each
@@ -87,7 +88,7 @@ impl Searcher for Windowed {
     }
 
     fn tally(&self) -> u128 {
-        self.column().iter().sum()
+        sum(self.column())
     }
 
     fn starts(&self) -> Vec<u128> {

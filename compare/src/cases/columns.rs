@@ -9,7 +9,7 @@ use super::{pattern, Written, ANY_SPAN};
 use crate::layout::Pattern;
 
 /// Span limits, slots and a text, and how many occurrences start at each of its places.
-pub type Column = ((u16, u16), &'static [Written<'static>], &'static [u16], &'static [u64]);
+pub type Column = ((u16, u16), &'static [Written<'static>], &'static [u16], &'static [u128]);
 
 /// a[0,3]c[1,3]b.
 const ACB: &[Written] = &[(0, 0, Only(&[A])), (0, 3, Only(&[C])), (1, 3, Only(&[B]))];
@@ -101,20 +101,45 @@ pub fn phrases() -> Vec<(Pattern, Vec<u16>)> {
 
 /// Two sevens with these gaps between them, and the column in sentences of sevens: from each place the sevens that lie
 /// so far ahead and are of the sentence.
-pub fn two_sevens(low: u16, high: u16, text: &[u16]) -> (Pattern, Vec<u64>) {
-    let ahead = |words: usize| (words as u64).saturating_sub(low.into()).min((high - low + 1).into());
+pub fn two_sevens(low: u16, high: u16, text: &[u16]) -> (Pattern, Vec<u128>) {
+    let ahead = |words: usize| (words as u128).saturating_sub(low.into()).min((high - low + 1).into());
     let column = |words: usize| (0..words).rev().map(ahead).collect();
-    let columns: Vec<Vec<u64>> = sentences(text).iter().map(|(_, sentence)| column(sentence.len())).collect();
+    let columns: Vec<Vec<u128>> = sentences(text).iter().map(|(_, sentence)| column(sentence.len())).collect();
     (pattern(ANY_SPAN, &sevens(2, low, high)), columns.join(&0))
 }
 
 /// So many sevens with any gaps between them, and the column in a text of at most 65 sevens: from each place all choices
 /// among the words after it, a number of Pascal's triangle.
-pub fn chosen_sevens(slots: usize, words: usize) -> (Pattern, Vec<u64>) {
+pub fn chosen_sevens(slots: usize, words: usize) -> (Pattern, Vec<u128>) {
     let mut column = vec![1; words];
     for _ in 1..slots {
         let after = |at: usize| column[at + 1..].iter().sum();
         column = (0..words).map(after).collect();
     }
     (pattern(ANY_SPAN, &sevens(slots, 0, 63)), column)
+}
+
+/// So many sevens with gaps up to `high` between them, and the column in a text of so many sevens: from each place the
+/// choices of gaps that leave the last seven within the text.
+pub fn gapped_sevens(slots: usize, high: u16, words: usize) -> (Pattern, Vec<u128>) {
+    let column = (0..words).rev().map(|after| choices(slots as i128 - 1, high.into(), after as i128)).collect();
+    (pattern(ANY_SPAN, &sevens(slots, 0, high)), column)
+}
+
+/// In how many ways so many gaps up to `high`, each with a word behind it, fit into so many words: all ways to choose gaps
+/// of any size, without those in which one is too wide, with those in which two are, and so on.
+fn choices(gaps: i128, high: i128, words: i128) -> u128 {
+    // Where the widest gaps fit, so do all.
+    let words = words.min(gaps * (high + 1));
+    let too_wide = |some: i128| choose(gaps, some) * choose(words - some * (high + 1), gaps);
+    let signed = |some: i128| if some % 2 == 0 { too_wide(some) } else { -too_wide(some) };
+    (0..=gaps).map(signed).sum::<i128>().try_into().expect("no number of ways is below 0")
+}
+
+/// In how many ways so many of these can be chosen.
+fn choose(these: i128, some: i128) -> i128 {
+    if these < some {
+        return 0;
+    }
+    (0..some).fold(1, |ways, chosen| ways * (these - chosen) / (chosen + 1))
 }

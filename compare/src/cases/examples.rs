@@ -18,8 +18,8 @@ word
 ";
 
 /// The program's example: its output.
-const EXAMPLE_OUTPUT: &[u8] = b"count tally
-2 6
+const EXAMPLE_OUTPUT: &[u8] = b"count high low
+2 0 6
 row slot front back
 1 1 1 1
 1 2 3 3
@@ -54,8 +54,8 @@ word
 ";
 
 /// The program's example with other words and sentence ends: its output.
-const CUT_OUTPUT: &[u8] = b"count tally
-2 5
+const CUT_OUTPUT: &[u8] = b"count high low
+2 0 5
 row slot front back
 1 1 1 2
 1 2 3 3
@@ -88,8 +88,8 @@ word
 ";
 
 /// An example with excluding slots: its output.
-const EXCLUDING_OUTPUT: &[u8] = b"count tally
-2 3
+const EXCLUDING_OUTPUT: &[u8] = b"count high low
+2 0 3
 row slot front back
 1 1 1 1
 1 2 2 3

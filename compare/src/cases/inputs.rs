@@ -3,6 +3,9 @@
 use super::examples::EXAMPLES;
 use super::files::{input, text_file, usual_pattern_file};
 use super::sentences::{cut_at, cut_every, joined};
+use super::tallies::{
+    equal_sentences, one_below_power, one_below_power_at_one_place, power, power_at_one_place, sixteen_words, with_more,
+};
 use super::worked::{worked_texts, Worked};
 use super::Words::{But, Only};
 use super::{alike, pattern, Written, ANY_SPAN};
@@ -38,7 +41,7 @@ fn worked() -> Vec<Vec<u8>> {
     worked_texts().map(worked).collect()
 }
 
-/// Inputs on both sides of the room for lists, of the tally's limit, and of the limits on words and bytes.
+/// Inputs on both sides of the room for lists, of 2^64 occurrences, and of the limits on words and bytes.
 fn at_limits() -> Vec<Vec<u8>> {
     let wide = sevens(16, 0, 63);
     let mut inputs: Vec<Vec<u8>> = [
@@ -67,7 +70,7 @@ fn at_limits() -> Vec<Vec<u8>> {
     inputs
 }
 
-/// Inputs on both sides of the room for lists and of the tally's limit, their texts cut by sentence ends.
+/// Inputs on both sides of the room for lists and of 2^64 occurrences, their texts cut by sentence ends.
 fn cut_at_limits() -> Vec<Vec<u8>> {
     let wide = sevens(16, 0, 63);
     let mut inputs: Vec<Vec<u8>> = [
@@ -92,7 +95,7 @@ fn cut_at_limits() -> Vec<Vec<u8>> {
     inputs
 }
 
-/// Inputs on both sides of the room for lists and of the tally's limit, all slots or every other one excluding.
+/// Inputs on both sides of the room for lists and of 2^64 occurrences, all slots or every other one excluding.
 fn excluding_at_limits() -> Vec<Vec<u8>> {
     let any = But(&[]);
     let eight = But(&[1, 2, 3, 4, 5, 6, 8, 9]);
@@ -110,6 +113,24 @@ fn excluding_at_limits() -> Vec<Vec<u8>> {
         (wide, vec![7; 117]),
     ];
     inputs.map(|(slots, text)| any_span_input(&slots, &text)).to_vec()
+}
+
+/// Inputs of few rows and about 2^64 occurrences, or many more, of which few or many start at one place.
+pub fn great() -> Vec<Vec<u8>> {
+    let sixteen = sixteen_words();
+    let (narrower, full) = one_below_power_at_one_place();
+    let inputs = [
+        (&sixteen, one_below_power(16, 1)),
+        (&sixteen, power(16, 1)),
+        (&sixteen, with_more(&power(16, 1), 1)),
+        (&sixteen, power_at_one_place()),
+        (&sixteen, equal_sentences(40)),
+        (&narrower, full.clone()),
+        (&narrower, with_more(&full, 1)),
+        (&narrower, with_more(&full, 2)),
+        (&narrower, joined(&full, &full)),
+    ];
+    inputs.map(|(pattern, text)| input(&usual_pattern_file(pattern), &text_file(&text))).to_vec()
 }
 
 /// The input with lines of 5 bytes added, and a line of 2 to 6 bytes, up to exactly so many bytes.
@@ -181,5 +202,5 @@ fn odd() -> Vec<Vec<u8>> {
 /// Some dozens of inputs.
 pub fn inputs() -> Vec<Vec<u8>> {
     let examples = EXAMPLES.map(|(input, _)| input.to_vec()).to_vec();
-    [examples, worked(), at_limits(), cut_at_limits(), excluding_at_limits(), odd()].concat()
+    [examples, worked(), at_limits(), cut_at_limits(), excluding_at_limits(), great(), odd()].concat()
 }

@@ -3,6 +3,7 @@
 pub mod clients;
 pub mod columns;
 pub mod conditions;
+pub mod dense;
 pub mod examples;
 pub mod excluding;
 pub mod files;

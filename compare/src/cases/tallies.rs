@@ -1,8 +1,9 @@
-//! Texts whose tallies stand at the limit of 64 bits.
+//! Texts whose tallies stand at 2^64, on both sides of it, and far past it.
 
 use super::inputs::{mixed_sevens, sevens};
 use super::Words::Only;
 use super::{pattern, Written, ANY_SPAN};
+use crate::halves::POWER;
 use crate::layout::Pattern;
 
 /// Sixteen slots, slot j taking the word j, any gaps between them.
@@ -41,6 +42,11 @@ pub fn power(parts: usize, zeros: usize) -> Vec<u16> {
     [one_below_power(parts, zeros), product([1; 16])].concat()
 }
 
+/// The text with so many sentences more, in each of which `sixteen_words` occurs once.
+pub fn with_more(text: &[u16], sentences: usize) -> Vec<u16> {
+    [text, &[vec![0], product([1; 16])].concat().repeat(sentences)].concat()
+}
+
 /// So many sentences of 16^15 occurrences of `sixteen_words` each, every one closed by a single 0.
 pub fn equal_sentences(sentences: usize) -> Vec<u16> {
     let times = |at: usize| if at == 0 { 1 } else { 16 };
@@ -64,6 +70,13 @@ pub fn one_below_power_at_one_place() -> (Pattern, Vec<u16>) {
     let highs = [(4, 25), (6, 47), (8, 26), (9, 23), (10, 33), (12, 49), (13, 29), (14, 36), (15, 47)];
     highs.into_iter().for_each(|(at, high)| narrower.slots[at].high = high);
     (narrower, product([1, 15, 17, 13, 24, 23, 28, 25, 19, 25, 16, 32, 30, 29, 24, 31]))
+}
+
+/// The same slots, so many of these sentences, and the column of them all.
+pub fn one_below_power_at_some_places(sentences: usize) -> (Pattern, Vec<u16>, Vec<u128>) {
+    let (narrower, sentence) = one_below_power_at_one_place();
+    let column = [vec![POWER - 1], vec![0; sentence.len()]].concat().repeat(sentences);
+    (narrower, [sentence, vec![0]].concat().repeat(sentences), column)
 }
 
 /// So many slots of which the first takes the word 1 and the others 7, any gaps between them.

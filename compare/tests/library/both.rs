@@ -8,6 +8,7 @@ use compare::ffi;
 use compare::layout::{Answer, Cursors, Found, Made, Pattern, Served};
 
 use crate::call::Call;
+use crate::column_lengths::lent;
 use crate::lent::Lent;
 use crate::run::Run;
 
@@ -40,12 +41,6 @@ impl<'a, S: Searcher> Both<'a, S> {
         self.run.agree(library, brute, case);
     }
 
-    /// Compares an answer that comes without a list.
-    fn answered(&mut self, library: Answer, brute: Answer, call: Call) {
-        self.agree(&library, &brute, || call.to_string());
-        self.run.call(call, library.number);
-    }
-
     /// Compares the tests of the limits.
     pub fn check(&mut self) {
         check(self.run, self.brute.pattern, self.brute.text.len());
@@ -53,17 +48,17 @@ impl<'a, S: Searcher> Both<'a, S> {
 
     /// Compares the count and the tally.
     pub fn numbers(&mut self) {
-        let (pattern, text) = (self.brute.pattern, self.brute.text);
-        let brute = self.brute.support();
-        self.answered(ffi::support(pattern, text), brute, Call::Support);
+        let (library, brute) = (ffi::support(self.brute.pattern, self.brute.text), self.brute.support());
+        self.agree(&library, &brute, || Call::Support.to_string());
+        self.run.call(Call::Support, library.number);
         self.tally();
     }
 
-    /// Compares the tally.
+    /// Compares the tally, both halves.
     pub fn tally(&mut self) {
-        let brute = self.brute.tally();
-        let library = ffi::tally(self.brute.pattern, self.brute.text);
-        self.answered(library, brute, Call::Tally);
+        let (library, brute) = (ffi::tally(self.brute.pattern, self.brute.text), self.brute.tally());
+        self.agree(&library, &brute, || Call::Tally.to_string());
+        self.run.call(Call::Tally, library.number);
     }
 
     /// Compares the column, with lists of every interesting length lent.
@@ -71,13 +66,14 @@ impl<'a, S: Searcher> Both<'a, S> {
         self.column_rooms().into_iter().for_each(|room| self.column_in(room));
     }
 
-    /// Lengths for a list of the column: short ones if the text is past its limit, for it is refused with any list.
+    /// Lengths for a list of the column, one with a single number for each word among them: short ones if the text is
+    /// past its limit, for it is refused with any list.
     pub fn column_rooms(&self) -> Vec<usize> {
         let words = self.brute.text.len();
         if words > 20_000 {
             return vec![0, 37];
         }
-        let mut lengths = [vec![0, words + 1], rooms(words)].concat();
+        let mut lengths = [vec![0, words, 2 * words + 1], rooms(2 * words)].concat();
         lengths.sort();
         lengths.dedup();
         lengths
@@ -85,13 +81,9 @@ impl<'a, S: Searcher> Both<'a, S> {
 
     /// Compares the column with so many entries lent.
     pub fn column_in(&mut self, room: usize) {
-        let (mut lent, mut expected) = (Lent::numbers(room), Lent::numbers(room));
-        let library = ffi::starts(self.brute.pattern, self.brute.text, lent.part());
-        let brute = self.brute.starts(expected.part());
-        let case = || format!("{} with {room} entries lent", Call::Starts);
-        self.agree(&library, &brute, case);
-        self.agree(&lent, &expected, case);
-        self.run.call(Call::Starts, library.number);
+        let mut expected = Lent::numbers(room);
+        let answer = self.brute.starts(expected.part());
+        lent(self.run, self.brute.pattern, self.brute.text, (answer, expected), room);
     }
 
     /// Compares whether a row is an occurrence, and every word of its excerpt.

@@ -9,12 +9,14 @@ use compare::cases::small::{patterns, texts};
 use compare::cases::Words::{But, Only};
 use compare::cases::{pattern, ANY_SPAN};
 use compare::ffi;
+use compare::halves::sum;
 use compare::layout::Pattern;
 use compare::rng::Rng;
 
-use crate::alone::{column, listed};
+use crate::alone::{added, column, listed, number};
 use crate::both::Both;
 use crate::call::Call;
+use crate::column_lengths;
 use crate::column_totals;
 use crate::run::Run;
 
@@ -32,10 +34,10 @@ const KINDS: [Kind; 3] = [
 const WRITTEN_OUT: u128 = 20_000;
 
 /// The most occurrences that the library's own column is held to one by one.
-const LISTED: u64 = 500;
+const LISTED: u128 = 500;
 
 /// The fewest rows of texts at random that the columns must be held to.
-const FEWEST: u64 = 20_000;
+const FEWEST: usize = 20_000;
 
 /// Compares columns.
 pub fn run(run: &mut Run) {
@@ -46,20 +48,21 @@ pub fn run(run: &mut Run) {
     formulas(run);
     small_texts(run);
     any_texts(run);
+    column_lengths::run(run);
     column_totals::run(run);
 }
 
 /// Compares a column that is stated, with lists of every interesting length lent.
-pub fn stated(run: &mut Run, pattern: &Pattern, text: &[u16], column: &[u64]) {
+pub fn stated(run: &mut Run, pattern: &Pattern, text: &[u16], column: &[u128]) {
     Both::new(run, Brute::windowed(pattern, text)).column();
-    agree(run, pattern, text, &Ok(column.to_vec()));
+    agree(run, pattern, text, column);
 }
 
-/// Holds the library to this column or this refusal's number.
-fn agree(run: &mut Run, pattern: &Pattern, text: &[u16], expected: &Result<Vec<u64>, u32>) {
-    let library = column(pattern, text);
-    run.agree(&library, expected, || format!("{}\npattern: {pattern:?}\ntext: {text:?}", Call::Starts));
-    run.call(Call::Starts, library.err().unwrap_or(0));
+/// Holds the library to this column.
+fn agree(run: &mut Run, pattern: &Pattern, text: &[u16], expected: &[u128]) {
+    let library = &column(pattern, text)[..];
+    run.agree(&library, &expected, || format!("{}\npattern: {pattern:?}\ntext: {text:?}", Call::Starts));
+    run.call(Call::Starts, 0);
 }
 
 /// Compares texts with one occurrence, at every place of short ones, the first and the last among them, and at some of
@@ -140,42 +143,37 @@ fn any_texts(run: &mut Run) {
     assert!(rows >= FEWEST, "columns are held to {rows} rows");
 }
 
-/// Holds the library's column to its own tally, that it is the sum or is refused alike, and where there are few
-/// occurrences, to its own full list, in which as many rows start at each place: how many rows.
-pub fn own(run: &mut Run, pattern: &Pattern, text: &[u16]) -> u64 {
+/// Holds the library's column to its own tally, that it is the sum, and where there are few occurrences, to its own full
+/// list, in which as many rows start at each place: how many rows.
+pub fn own(run: &mut Run, pattern: &Pattern, text: &[u16]) -> usize {
     let case = || format!("{} and its sum or rows\npattern: {pattern:?}\ntext: {text:?}", Call::Starts);
-    let (column, tally) = (column(pattern, text), ffi::tally(pattern, text));
-    let sum = column.as_ref().map(|column| sum(column)).map_err(|number| *number);
-    let tallied = if tally.number == 0 { Ok(u128::from(tally.value)) } else { Err(tally.number) };
-    run.agree(&sum, &tallied, case);
-    run.call(Call::Starts, tally.number);
-    if tally.number != 0 || tally.value > LISTED {
+    let (column, tally) = (column(pattern, text), number(ffi::tally(pattern, text)));
+    run.agree(&sum(&column), &tally, case);
+    run.call(Call::Starts, 0);
+    if tally > LISTED {
         return 0;
     }
-    let rows = listed(ffi::all, pattern, text, tally.value as usize * pattern.count);
+    let rows = listed(ffi::all, pattern, text, tally as usize * pattern.count);
     let mut begun = vec![0; text.len()];
     rows.chunks(pattern.count).for_each(|row| begun[row[0] as usize - 1] += 1);
-    run.agree(&column, &Ok(begun), case);
-    tally.value
+    run.agree(&column, &begun, case);
+    tally as usize
 }
 
-/// The sum of a column.
-fn sum(column: &[u64]) -> u128 {
-    column.iter().copied().map(u128::from).sum()
-}
-
-/// Begins an input of two texts, and compares their columns with that of both with a 0 between them.
-pub fn two_texts(run: &mut Run, pattern: &Pattern, text: &[u16], other: &[u16]) {
+/// Begins an input of two texts, and holds the library's column and tally for both with a 0 between them to those for
+/// each: whether the low halves of the tallies carry.
+pub fn two_texts(run: &mut Run, pattern: &Pattern, text: &[u16], other: &[u16]) -> bool {
     run.input();
     follow_on(run, pattern, text, other);
+    let [one, two, both] = [text, other, &joined(text, other)].map(|text| ffi::tally(pattern, text));
+    let case = || format!("{}\npattern: {pattern:?}\ntexts with a 0 between: {text:?} {other:?}", Call::Tally);
+    run.agree(&both, &added(one, two), case);
+    run.call(Call::Tally, both.number);
+    one.low.checked_add(two.low).is_none()
 }
 
-/// Holds the library's column for two texts with a 0 between them to its columns for each: the first's, a 0, the
-/// second's; it is refused with 9 where one of them is or where they are too much together.
+/// Holds the library's column for two texts with a 0 between them to its columns for each: the first's, a 0, the second's.
 pub fn follow_on(run: &mut Run, pattern: &Pattern, text: &[u16], other: &[u16]) {
-    let expected = match (column(pattern, text), column(pattern, other)) {
-        (Ok(one), Ok(two)) if sum(&one) + sum(&two) < 1 << 64 => Ok([one, vec![0], two].concat()),
-        _ => Err(9),
-    };
+    let expected = [column(pattern, text), vec![0], column(pattern, other)].concat();
     agree(run, pattern, &joined(text, other), &expected);
 }

@@ -9,7 +9,7 @@ use compare::ffi;
 use compare::layout::Pattern;
 use compare::rng::Rng;
 
-use crate::alone::{column, listed, LISTS, NUMBERS, SEARCHES};
+use crate::alone::{column, listed, number, LISTS, NUMBERS, SEARCHES};
 use crate::call::Call;
 use crate::run::Run;
 
@@ -22,7 +22,7 @@ const KINDS: [Kind; 4] = [
 ];
 
 /// The most occurrences that are listed.
-const LISTED: u64 = 5_000;
+const LISTED: u128 = 5_000;
 
 /// Compares patterns with all, one, or some of their slots in the other form.
 pub fn run(run: &mut Run) {
@@ -75,7 +75,7 @@ impl Alike<'_> {
         for (call, number) in NUMBERS {
             self.agree(call, |pattern| number(pattern, text), |answer| answer.number);
         }
-        self.agree(Call::Starts, |pattern| column(pattern, text), |column| column.as_ref().err().copied().unwrap_or(0));
+        self.agree(Call::Starts, |pattern| column(pattern, text), |_| 0);
         self.lists();
         for _ in 0..3 {
             let marks = any_marks(rng, slots, text.len());
@@ -95,11 +95,11 @@ impl Alike<'_> {
     /// Compares the lists, if they are not too long.
     fn lists(&mut self) {
         let (text, slots) = (self.text, self.pattern.count);
-        let [support, tally] = NUMBERS.map(|(_, number)| number(self.pattern, text));
+        let [support, tally] = NUMBERS.map(|(_, call)| number(call(self.pattern, text)));
         for (call, list) in LISTS {
             let rows = if call == Call::All { tally } else { support };
-            if rows.number == 0 && rows.value <= LISTED {
-                let room = rows.value as usize * slots;
+            if rows <= LISTED {
+                let room = rows as usize * slots;
                 self.agree(call, |pattern| listed(list, pattern, text, room), |_| 0);
             }
         }

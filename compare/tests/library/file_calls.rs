@@ -86,7 +86,7 @@ pub fn report(run: &mut Run, input: &[u8]) {
 pub fn report_cut(run: &mut Run, input: &[u8]) {
     let expected = brute::report(input);
     let whole = expected.len();
-    for room in [0, 1, 13, whole / 2, whole - 1, whole, whole + 1] {
+    for room in (0..=60).chain([whole / 2, whole - 1, whole, whole + 1]) {
         report_in(run, input, &expected, room);
     }
 }

@@ -3,7 +3,7 @@
 use compare::brute::pattern_of;
 use compare::cases::examples::EXAMPLES;
 use compare::cases::files::{damage, input, pattern_file, text_file, usual_pattern_file, SLOT_ORDERS, SPAN_ORDERS};
-use compare::cases::inputs::inputs;
+use compare::cases::inputs::{great, inputs};
 use compare::cases::orders::rearranged;
 use compare::cases::random::{any_pattern, any_text, break_pattern, text_with_stops, Kind, STOPS};
 use compare::rng::Rng;
@@ -57,6 +57,7 @@ pub fn run(run: &mut Run) {
     }
     run.input();
     EXAMPLES.iter().for_each(|(input, _)| report_cut(run, input));
+    great().iter().for_each(|input| report_cut(run, input));
     report_cut(run, b"");
 }
 

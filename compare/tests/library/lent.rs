@@ -20,7 +20,7 @@ impl Lent<u16> {
 }
 
 impl Lent<u64> {
-    /// A list of so many numbers, filled with great ones, no two alike, that no column of the cases has.
+    /// A list of so many halves, filled with great numbers, no two alike, that no column of the cases has there.
     pub fn numbers(room: usize) -> Lent<u64> {
         let entry = |at: usize| (at as u64 + 1).wrapping_mul(0x9E37_79B9_7F4A_7C15);
         Lent { entries: (0..room + 2 * GUARD).map(entry).collect() }

@@ -1,4 +1,4 @@
-//! Each limit of patterns, texts, rows, lists, tallies, clients and lines, from both sides.
+//! Each limit of patterns, texts, rows, lists, clients and lines, from both sides, and tallies on both sides of 2^64.
 
 use compare::brute::{self, Brute};
 use compare::cases::clients::numbered_apart;
@@ -6,7 +6,9 @@ use compare::cases::inputs::sevens;
 use compare::cases::lines::one_long_line;
 use compare::cases::random::add_garbage;
 use compare::cases::sentences::{cut_at, cut_every, joined};
-use compare::cases::tallies::{equal_sentences, one_below_power, power, sixteen_words, thresholds};
+use compare::cases::tallies::{
+    equal_sentences, one_below_power, one_below_power_at_some_places, power, sixteen_words, thresholds, with_more,
+};
 use compare::cases::Words::{But, Only};
 use compare::cases::{alike, pattern, Words, ANY_SPAN};
 use compare::layout::{Cursors, Pattern};
@@ -182,11 +184,17 @@ fn tallies(run: &mut Run) {
         for parts in [1, 2, 8, 15, 16] {
             counted(run, &sixteen_words(), &one_below_power(parts, zeros));
             counted(run, &sixteen_words(), &power(parts, zeros));
+            counted(run, &sixteen_words(), &with_more(&power(parts, zeros), 1));
         }
     }
     counted(run, &sixteen_words(), &equal_sentences(16));
     for rest in [vec![], one_below_power(15, 1), power(15, 1)] {
         counted(run, &sixteen_words(), &[equal_sentences(15), rest].concat());
+    }
+    for sentences in [1, 2, 3] {
+        let (narrower, text, _) = one_below_power_at_some_places(sentences);
+        counted(run, &narrower, &text);
+        counted(run, &narrower, &with_more(&text[..text.len() - 1], sentences));
     }
     for (pattern, words, others) in thresholds() {
         for words in [words - 2, words - 1, words, words + 1, 1_000] {

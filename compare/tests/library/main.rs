@@ -5,6 +5,7 @@ mod arranged;
 mod both;
 mod call;
 mod column;
+mod column_lengths;
 mod column_totals;
 mod conditions;
 mod damage;

@@ -1,15 +1,16 @@
 //! Texts cut by sentence ends: a 0 at every place, rows across sentence ends, and two texts with a 0 between them.
 
 use compare::brute::{Brute, Row, Searcher};
+use compare::cases::dense::{any_dense_pattern, any_dense_text};
 use compare::cases::inputs::sevens;
 use compare::cases::random::{any_pattern, any_text, text_with_stops, Kind, STOPS};
 use compare::cases::sentences::{cut_at, joined, without_stops};
 use compare::cases::Words::{But, Only};
 use compare::cases::{pattern, ANY_SPAN};
-use compare::layout::{Answer, Cursors, Pattern};
+use compare::layout::{Cursors, Pattern};
 use compare::rng::Rng;
 
-use crate::alone::{listed, LISTS, NUMBERS};
+use crate::alone::{added, listed, number, LISTS, NUMBERS};
 use crate::both::Both;
 use crate::call::Call;
 use crate::column;
@@ -29,7 +30,7 @@ const DENSE: Kind = Kind { slots: (12, 16), highest_word: 1, most_words: 1, wide
 const ROWS: usize = 60;
 
 /// The most occurrences that are listed for two texts.
-const LISTED: u64 = 5_000;
+const LISTED: u128 = 5_000;
 
 /// Compares texts cut by sentence ends.
 pub fn run(run: &mut Run) {
@@ -48,6 +49,11 @@ pub fn run(run: &mut Run) {
         let lengths = [rng.within(0, 900), rng.within(0, 900)];
         let stops = rng.pick(&[Some(300), None]);
         let [text, other] = lengths.map(|words| text_with_stops(&mut rng, words, DENSE.highest_word, stops));
+        two_texts(run, &pattern, &text, &other);
+    }
+    for _ in 0..40 {
+        let (pattern, lengths) = (any_dense_pattern(&mut rng), [rng.within(100, 400), rng.within(100, 400)]);
+        let [text, other] = lengths.map(|words| any_dense_text(&mut rng, words));
         two_texts(run, &pattern, &text, &other);
     }
     for kind in &KINDS {
@@ -109,11 +115,11 @@ fn two_texts(run: &mut Run, pattern: &Pattern, text: &[u16], other: &[u16]) {
     let case = |call: Call| format!("{call}\npattern: {pattern:?}\ntexts with a 0 between: {text:?} {other:?}");
     run.input();
     let mut sums = [0, 0];
-    for (sum, (call, number)) in sums.iter_mut().zip(NUMBERS) {
-        let library = number(pattern, &whole);
-        run.agree(&library, &added(number(pattern, text), number(pattern, other)), || case(call));
+    for (sum, (call, answer)) in sums.iter_mut().zip(NUMBERS) {
+        let library = answer(pattern, &whole);
+        run.agree(&library, &added(answer(pattern, text), answer(pattern, other)), || case(call));
         run.call(call, library.number);
-        *sum = if library.number == 0 { library.value } else { u64::MAX };
+        *sum = number(library);
     }
     column::follow_on(run, pattern, text, other);
     for (call, list) in LISTS {
@@ -124,13 +130,5 @@ fn two_texts(run: &mut Run, pattern: &Pattern, text: &[u16], other: &[u16]) {
             run.agree(&listed(&whole), &[listed(text), moved].concat(), || case(call));
             run.call(call, 0);
         }
-    }
-}
-
-/// The answer that adds up two; where one is refused, or the sum passes 64 bits, it is refused with 9.
-fn added(one: Answer, other: Answer) -> Answer {
-    match one.value.checked_add(other.value) {
-        Some(value) if one.number == 0 && other.number == 0 => Answer { number: 0, place: 0, value },
-        _ => Answer { number: 9, place: 0, value: 0 },
     }
 }

@@ -68,16 +68,16 @@ fn told(pattern: &Pattern, text: &[u16], marks: &[u16]) -> Vec<(u32, usize)> {
         ffi::rightmost(pattern, text, &mut []),
         ffi::all(pattern, text, &mut []),
         ffi::support(pattern, text),
-        ffi::tally(pattern, text),
         ffi::starts(pattern, text, &mut []),
         ffi::write_pattern(pattern, &mut []),
     ];
     let found = [ffi::first_after(pattern, text, marks), ffi::last_before(pattern, text, marks)];
     let served = ffi::next(&Cursors::default(), 1, pattern, text);
-    let made = ffi::merge(pattern, pattern);
+    let (made, tally) = (ffi::merge(pattern, pattern), ffi::tally(pattern, text));
     let answers = answers.iter().map(|answer| (answer.number, answer.place));
     let found = found.iter().map(|found| (found.number, found.place));
-    answers.chain(found).chain([(served.number, served.place), (made.number, made.place)]).collect()
+    let others = [(served.number, served.place), (made.number, made.place), (tally.number, tally.place)];
+    answers.chain(found).chain(others).collect()
 }
 
 /// Compares slots with two neighbouring words exchanged, equal, or the second the least, for every two neighbours and
@@ -157,7 +157,8 @@ fn tallies(run: &mut Run) {
             both.column();
             both.all();
         }
-        assert_eq!(ffi::tally(&pattern, &[7; 1_000][..words]).number, 9);
+        let tally = ffi::tally(&pattern, &[7; 1_000][..words]);
+        assert_eq!((tally.number, tally.place, tally.high), (0, 0, 1));
     }
 }
 

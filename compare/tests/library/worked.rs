@@ -58,9 +58,10 @@ fn handed_in(run: &mut Run, as_stated: &Pattern, pattern: &Pattern, text: &[u16]
 fn stated(case: &Worked, pattern: &Pattern) {
     assert_eq!(ffi::support(pattern, case.text).value, case.count as u64);
     if let Some(all) = case.all {
-        assert_eq!(ffi::tally(pattern, case.text).value, all.len() as u64);
-        let begin = |place: usize| all.iter().filter(|row| row[0] as usize == place).count() as u64;
-        assert_eq!(column(pattern, case.text), Ok((1..=case.text.len()).map(begin).collect()));
+        let tally = ffi::tally(pattern, case.text);
+        assert_eq!((tally.number, tally.high, tally.low), (0, 0, all.len() as u64));
+        let begin = |place: usize| all.iter().filter(|row| row[0] as usize == place).count() as u128;
+        assert_eq!(column(pattern, case.text), (1..=case.text.len()).map(begin).collect::<Vec<_>>());
     }
     for row in case.all.into_iter().flatten() {
         let length = usize::from(row[row.len() - 1] - row[0] + 1);

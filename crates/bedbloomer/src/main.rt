@@ -6,6 +6,7 @@ ghost use mathlib.Core.Path.{_≡_};
 ghost use Prim.Native.Nat.{_≤_};
 ghost use lib.ListN.{length, take};
 ghost use Rattle.io.specs.Counts.{Counts};
+ghost use Rattle.report.specs.Size.{reportBound};
 ghost use Rattle.report.specs.Report.{reported};
 
 // What was read: how many bytes, and whether a read failed after them.
@@ -49,7 +50,7 @@ fn read_all(file: i32, list: &mut [u8]) -> Input
 
 // Writes the whole report to the start of a list that has room for any.
 fn answer(input: &[u8], out: &mut [u8]) -> usize
-    requires { ⌜ 336059 ≤ length (now out) ⌝ }
+    requires { ⌜ reportBound ≤ length (now out) ⌝ }
     ensures { λ r. ⌜ Counts r (now (out .exit)) ⌝ }
     ensures { λ r. ⌜ take r (now (out .exit)) ≡ reported (now (input .entry)) ⌝ }
 {
@@ -58,7 +59,7 @@ fn answer(input: &[u8], out: &mut [u8]) -> usize
 
 // Prints the report of the input, or says that it could not.
 fn print(input: &[u8]) {
-    let mut out = [0u8; 336059];
+    let mut out = [0u8; report::REPORT_BOUND];
     let n = answer(input, &mut out);
     if !io::write_all(STDOUT_FILENO, &out[..n]) {
         io::write_all(

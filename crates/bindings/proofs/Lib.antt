@@ -1,3 +1,4 @@
 -- Laws that the proofs share.
 mod Numbers
 mod Counting
+mod Nine

@@ -18,7 +18,7 @@ use Rattle.matching.specs.declared.searches.Search.{Search}
 use Rattle.counting.specs.declared.starting.Started.{Started}
 use Rattle.counting.specs.declared.starting.Started.the-variants.{Words as Numbered, Refused as NotStarted}
 use Rattle.counting.specs.declared.total.Tallied.{Tallied}
-use Rattle.counting.specs.declared.total.Tallied.the-variants.{Total, Refused as NotTallied}
+use Rattle.counting.specs.declared.total.Tallied.the-variants.{Total as Counted, Refused as NotTallied}
 use Rattle.merging.specs.declared.Merged.{Merged}
 use Rattle.format.specs.declared.input.InputRead.{InputRead}
 use Rattle.format.specs.declared.patterns.PatternRead.{PatternRead}
@@ -31,6 +31,7 @@ use Rattle.cursors.specs.declared.Cursors.{Cursors}
 use Rattle.cursors.specs.declared.Served.{Served}
 use Rattle.cursors.specs.declared.Rewound.{Rewound}
 use Rattle.bindings.specs.declared.answers.Answer.{Answer}
+use Rattle.bindings.specs.declared.answers.Total.{Total}
 use Rattle.bindings.specs.declared.answers.Made.{Made}
 use Rattle.bindings.specs.declared.answers.ReadBoth.{ReadBoth}
 use Rattle.bindings.specs.declared.answers.LineEnds.{LineEnds}
@@ -58,11 +59,6 @@ abbrev pub ofListed : Listed → Answer
 ofListed (Rows rows) = value rows
 ofListed (NotListed why) = refused why
 
--- the tally
-abbrev pub ofTallied : Tallied → Answer
-ofTallied (Total total) = value total
-ofTallied (NotTallied why) = refused why
-
 -- the column: how many words
 abbrev pub ofStarted : Started → Answer
 ofStarted (Numbered n) = value n
@@ -89,6 +85,13 @@ abbrev pub ofOutcome : Outcome → Answer
 ofOutcome Hit = value 1
 ofOutcome Absent = value 0
 ofOutcome (NotSearched why) = refused why
+
+-- ---- one number in two halves
+
+-- the tally
+abbrev pub ofTallied : Tallied → Total
+ofTallied (Counted high low) = record { number = 0; place = 0; high = high; low = low }
+ofTallied (NotTallied why) = record { number = numberOf why; place = placeOf why; high = 0; low = 0 }
 
 -- ---- with what else a call gives
 

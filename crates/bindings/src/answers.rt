@@ -1,4 +1,5 @@
 use counting::Started;
+use counting::Tallied;
 use cursors::Cursors;
 use excerpts::Tested;
 use format::TextRead;
@@ -9,7 +10,7 @@ use pattern::Refusal;
 use pattern::Verdict;
 use printing::PatternWritten;
 ghost use mathlib.Core.Path.{_≡_};
-ghost use Rattle.bindings.specs.Answers.{refused, value, ofVerdict, ofListed, ofStarted, ofTextRead, ofWritten, ofTested, ofOutcome, withPattern};
+ghost use Rattle.bindings.specs.Answers.{refused, value, ofVerdict, ofListed, ofTallied, ofStarted, ofTextRead, ofWritten, ofTested, ofOutcome, withPattern};
 
 // An answer, or a refusal's number with its place; then the value is 0.
 #[repr(C)]
@@ -17,6 +18,15 @@ pub struct Answer {
     pub number: u32,
     pub place: usize,
     pub value: u64,
+}
+
+// A number of occurrences in two halves, high times 2 ^ 64 plus low, or a refusal's number with its place; then both halves are 0.
+#[repr(C)]
+pub struct Total {
+    pub number: u32,
+    pub place: usize,
+    pub high: u64,
+    pub low: u64,
 }
 
 // A pattern, beside a refusal's number with its place.
@@ -108,6 +118,26 @@ pub(crate) fn of_listed(listed: Listed) -> Answer
     match listed {
         Listed::Rows(rows) => value(rows as u64),
         Listed::Refused(why) => refused(why),
+    }
+}
+
+// What the tally answered, as numbers.
+pub(crate) fn of_tallied(tallied: Tallied) -> Total
+    ensures { λ r. ⌜ r ≡ ofTallied tallied ⌝ }
+{
+    match tallied {
+        Tallied::Total { high, low } => Total {
+            number: 0,
+            place: 0,
+            high,
+            low,
+        },
+        Tallied::Refused(why) => Total {
+            number: why.number(),
+            place: why.place(),
+            high: 0,
+            low: 0,
+        },
     }
 }
 

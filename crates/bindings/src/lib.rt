@@ -13,6 +13,7 @@ pub use answers::LineEnds;
 pub use answers::Made;
 pub use answers::ReadBoth;
 pub use answers::ServedTo;
+pub use answers::Total;
 pub use files::bedbloomer_count;
 pub use files::bedbloomer_line;
 pub use files::bedbloomer_read_input;

@@ -1,9 +1,8 @@
 use crate::answers::Answer;
+use crate::answers::Total;
 use crate::answers::of_listed;
 use crate::answers::of_started;
-use crate::answers::refused;
-use crate::answers::value;
-use counting::Tallied;
+use crate::answers::of_tallied;
 use pattern::Pattern;
 ghost use mathlib.Core.Path.{_≡_};
 ghost use lib.ListN.{length};
@@ -52,23 +51,22 @@ pub extern "C" fn bedbloomer_support(pattern: Pattern, text: &[u16]) -> Answer
     of_listed(support)
 }
 
-// The tally: the number of all occurrences.
+// The tally: the number of all occurrences. It never answers 9.
 #[no_mangle]
-pub extern "C" fn bedbloomer_tally(pattern: Pattern, text: &[u16]) -> Answer
+pub extern "C" fn bedbloomer_tally(pattern: Pattern, text: &[u16]) -> Total
     ensures { λ r. ⌜ r ≡ ofTallied (tallied pattern (now (text .entry))) ⌝ }
+    ensures { λ r. ⌜ (r .number ≡ 9 → ⊥) ⌝ }
 {
     let tallied = counting::tally(pattern, text);
-    match tallied {
-        Tallied::Total(total) => value(total),
-        Tallied::Refused(why) => refused(why),
-    }
+    of_tallied(tallied)
 }
 
-// How many occurrences start at each word.
+// How many occurrences start at each word. It never answers 9.
 #[no_mangle]
 pub extern "C" fn bedbloomer_starts(pattern: Pattern, text: &[u16], list: &mut [u64]) -> Answer
     ensures { λ r. ⌜ r ≡ ofStarted (started pattern (now (text .entry)) (length (now (list .entry)))) ⌝ }
     ensures { λ _. ⌜ now (list .exit) ≡ startsWritten pattern (now (text .entry)) (now (list .entry)) ⌝ }
+    ensures { λ r. ⌜ (r .number ≡ 9 → ⊥) ⌝ }
 {
     let started = counting::starts(pattern, text, list);
     of_started(started)

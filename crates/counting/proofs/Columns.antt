@@ -6,7 +6,7 @@ use mathlib.Core.Path.{_≡_, refl, sym, ap, _∙_, fun-ext}
 use native.Mathlib.Decide.{decLt}
 use native.Mathlib.Omega.{arith}
 use lib.ListN.{length, getD, take, set, replicate, length-take, length-set, length-replicate, List·getD-append}
-use lib.Seq.{getD-take, getD-append-add, length-take-le, ext-getD}
+use lib.Seq.{getD-take, getD-append-add, ext-getD}
 use borrow.Author.Count.{below-more}
 use Rattle.pattern.specs.declared.Pattern.{Pattern}
 use Rattle.matching.specs.Occurrence.{View, plain}
@@ -19,14 +19,14 @@ use Rattle.matching.specs.Spans.{width, horizon, limit, least}
 use Rattle.matching.specs.Laws.Cover.{count-each, tally-places}
 use Rattle.matching.specs.Laws.Sentences.{horizon-past}
 use Rattle.counting.specs.Steps.Inputs.{Input}
-use Rattle.counting.specs.Steps.Numbers.{val}
+use Rattle.counting.specs.Steps.Numbers.{val, numbers}
 use Rattle.counting.specs.Laws.Bound.{tally-fits}
 use Rattle.counting.specs.Steps.Fits.{Fitted}
 use Rattle.counting.specs.Steps.Plans.{unbound}
 use Rattle.counting.specs.Steps.Rows.{Room, Blank, size, stopAt, Row, Column}
-use Rattle.counting.specs.Starts.{startsAt, column}
+use Rattle.counting.specs.Starts.{column}
 use Rattle.counting.specs.Laws.Starts.{column-length, column-at}
-use Rattle.counting.proofs.Loops.{val-same, val-other, total-inside}
+use Rattle.counting.proofs.Loops.{numbers-length, numbers-at, val-same, val-other}
 use Rattle.counting.proofs.Parting.{sentenceAt, startAt, size-sentence, stop-sentence, stop-start, from-start, off-fits, starting-off, sentence-count}
 
 -- ---- the column: done below i
@@ -147,18 +147,15 @@ module _ {f : Pattern} {v : View} {H L : List ℕ} (ok : Input f v) (c : Column 
   pub column-fits : total (v .places) (val H L) 0 < 2 ^ 128
   column-fits = rw column-total (tally-fits ok)
 
--- ---- where the sum is below 2 ^ 64 its low halves are the numbers
+-- ---- its numbers are the column
 
-module _ (f : Pattern) (t : List ℕ) {H L : List ℕ} (c : Column f (plain f t) H L) (small : total (length t) (val H L) 0 < 2 ^ 64) where
-  low-at : (i : ℕ) → i < length t → getD L i 0 ≡ startsAt f t (i + 1)
-  unfolding val startingIn
-  low-at i h = omega (arith, c .starts i h, total-inside (val H L) (length t) i refl h)
-
-  pub column-low : length t ≤ length L → take (length t) L ≡ column f t
-  column-low room =
-      let e = length-take-le (length t) L room in
-      ext-getD 0 (take (length t) L) (column f t) (omega (arith, column-length f t))
-      (λ i h. getD-take (length t) L i 0 (omega arith) ∙ low-at i (omega arith) ∙ sym (column-at f t i (omega arith)))
+module _ (f : Pattern) (t : List ℕ) {H L : List ℕ} (c : Column f (plain f t) H L) where
+  pub column-numbers : numbers H L (length t) ≡ column f t
+  unfolding startingIn
+  column-numbers =
+      let size = numbers-length H L (length t) in
+      ext-getD 0 (numbers H L (length t)) (column f t) (size ∙ sym (column-length f t))
+      (λ i h. numbers-at H L (length t) i (omega arith) ∙ c .starts i (omega arith) ∙ sym (column-at f t i (omega arith)))
 
 -- ---- new lists
 
@@ -167,6 +164,10 @@ unfolding val
 blank-new space n h =
     let e = length-replicate {A = ℕ} space 0 in
     record { room = record { high = omega arith; low = omega arith }; zero = λ i. rw (zeros-at space i) }
+
+-- two lists that were new have room for a text still
+pub room-new : {n : ℕ} → n ≤ 20000 → {H L : List ℕ} → length H ≡ length {A = ℕ} (replicate 20001 0) → length L ≡ length {A = ℕ} (replicate 20001 0) → Room n H L
+room-new h eh el = let e = length-replicate {A = ℕ} 20001 0 in record { high = omega arith; low = omega arith }
 
 pub long-new : (space : ℕ) → space ≤ length {A = ℕ} (replicate space 0)
 long-new space = omega (arith, length-replicate {A = ℕ} space 0)

@@ -14,9 +14,19 @@ use borrow.Author.Count.{below-more}
 use Rattle.basics.specs.Sums.{total, rest}
 use Rattle.basics.specs.Laws.Sums.{total-split, rest-step}
 use Rattle.basics.specs.Choice.{when}
-use Rattle.counting.specs.Steps.Numbers.{val}
+use Rattle.matching.specs.Laws.Enumeration.{each-length, each-at}
+use Rattle.counting.specs.Steps.Numbers.{val, numbers}
 use Rattle.counting.specs.Steps.Fits.{fitted}
 use Rattle.counting.specs.Steps.Rows.{Room, Ended, Falling, Spread, Summable, Summed}
+
+-- ---- the numbers as a list
+
+module _ (H L : List ℕ) (n : ℕ) where
+  pub numbers-length : length (numbers H L n) ≡ n
+  numbers-length = each-length (val H L) 0 n
+
+  pub numbers-at : (i : ℕ) → i < n → getD (numbers H L n) i 0 ≡ val H L i
+  numbers-at i h = let e : 0 + i ≡ i = omega arith in each-at (val H L) 0 n i h ∙ ap (val H L) e
 
 -- ---- a store to both halves
 

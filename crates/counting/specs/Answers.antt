@@ -1,5 +1,5 @@
--- What the calls answer, by the tests of document 01's table in their order; of the column by document 02.
-use Prim.Native.Nat.{ℕ, _*_}
+-- What the calls answer, by the tests of document 01's table in their order; of the column, and of 9, by document 02.
+use Prim.Native.Nat.{ℕ, _*_, _-_, _^_}
 use mathlib.Core.Bool.{Bool}
 use mathlib.Core.List.{List}
 use lib.ListN.{length}
@@ -22,17 +22,18 @@ use Rattle.counting.specs.declared.starting.Started.the-variants.{Words}
 use Rattle.counting.specs.declared.starting.Started.the-variants.{Refused as Unstarted}
 use Rattle.counting.specs.declared.total.Tallied.{Tallied}
 use Rattle.counting.specs.declared.total.Tallied.the-variants.{Total, Refused}
+use Rattle.counting.specs.Halves.{high, low, halves}
 use Rattle.counting.specs.Starts.{column}
 
--- ---- the tally: 9 where the number is over 2 ^ 64 - 1
+-- ---- the tally: 9 where the number is over 2 ^ 128 - 1, as it never is (`Laws/Nine`)
 
--- more than 64 bits hold
+-- more than two halves hold
 abbrev pub tooMany : ℕ → Bool
-tooMany n = ltb 18446744073709551615 n
+tooMany n = ltb (2 ^ 128 - 1) n
 
 -- the answer for so many occurrences
 abbrev pub totalOf : ℕ → Tallied
-totalOf n = pick (tooMany n) (Refused Tally) (Total n)
+totalOf n = pick (tooMany n) (Refused Tally) (Total (high n) (low n))
 
 -- the same where the tests up to 6 come to the verdict
 abbrev pub talliedAfter : Verdict → ℕ → Tallied
@@ -58,27 +59,28 @@ allListed f t n = listedAfter (inputVerdict f (length t)) (length (occurrences f
 abbrev pub allWritten : Pattern → List ℕ → List ℕ → List ℕ
 allWritten f t l = filled (inputVerdict f (length t)) (f .count) (occurrences f t) l
 
--- ---- how many occurrences start at each word: 8 where the list is shorter than the text, with the place 0, then 9 as for the tally
+-- ---- how many occurrences start at each word: 8 where the list is shorter than two numbers for each word, with the place 0, then 9 as for
+-- the tally
 
--- the answer for so many words and occurrences and a list of `room` numbers, where the tests up to 6 come to the verdict
-abbrev pub startedAfter : Verdict → ℕ → ℕ → ℕ → Started
-startedAfter Accepted words total room = pick (ltb room words) (Unstarted (ListLength 0)) (pick (tooMany total) (Unstarted Tally) (Words words))
-startedAfter (Turned why) words total room = Unstarted why
+-- the answer for so many words, where the tests up to 6 come to the verdict: by whether the list is short and the total too large
+abbrev pub startedAfter : Verdict → ℕ → Bool → Bool → Started
+startedAfter Accepted words short large = pick short (Unstarted (ListLength 0)) (pick large (Unstarted Tally) (Words words))
+startedAfter (Turned why) words short large = Unstarted why
 
 -- the answer (document 02: hits that start at each word), for a list of `room` numbers
 abbrev pub started : Pattern → List ℕ → ℕ → Started
-started f t room = startedAfter (inputVerdict f (length t)) (length t) (length (occurrences f t)) room
+started f t room = startedAfter (inputVerdict f (length t)) (length t) (ltb room (length t * 2)) (tooMany (length (occurrences f t)))
 
 -- with a list that is long enough: the answer for so many words, by the tally's (`starts-like-tally`)
 abbrev pub startedLike : ℕ → Tallied → Started
-startedLike words (Total total) = Words words
+startedLike words (Total h l) = Words words
 startedLike words (Refused why) = Unstarted why
 
--- what a list holds by the answer: the column over its start, or all of it as it was
+-- what a list holds by the answer: the numbers over its start, or all of it as it was
 abbrev pub columnBy : Started → List ℕ → List ℕ → List ℕ
 columnBy (Words n) c l = over l c
 columnBy (Unstarted why) c l = l
 
--- the caller's list at the end
+-- the caller's list at the end: with the halves of the column
 abbrev pub startsWritten : Pattern → List ℕ → List ℕ → List ℕ
-startsWritten f t l = columnBy (started f t (length l)) (column f t) l
+startsWritten f t l = columnBy (started f t (length l)) (halves (column f t)) l

@@ -3,13 +3,15 @@ use Prim.Native.Nat.{ℕ, _+_}
 use mathlib.Core.Path.{_≡_}
 use mathlib.Core.List.{List, _∷_, _++_}
 use Rattle.pattern.specs.declared.Pattern.{Pattern}
-use Rattle.counting.specs.Answers.{totalOf, tallied}
+use Rattle.counting.specs.declared.total.Tallied.the-variants.{Total}
+use Rattle.counting.specs.Halves.{high, low}
+use Rattle.counting.specs.Answers.{tallied}
 
--- the call, where the joined text passes the tests: what `tally` answers for the two texts are the answers for two numbers, and for it that
--- for their sum; an answer is 9 exactly if its number is over 2 ^ 64 - 1
+-- the call, where the joined text passes the tests: what `tally` answers for the two texts are the halves of two numbers, and for it the
+-- halves of their sum
 pub record TalliesAdd (f : Pattern) (t u : List ℕ) : Type 0 where
   pub first : ℕ
   pub second : ℕ
-  pub of-first : tallied f t ≡ totalOf first
-  pub of-second : tallied f u ≡ totalOf second
-  pub of-joined : tallied f (t ++ 0 ∷ u) ≡ totalOf (first + second)
+  pub of-first : tallied f t ≡ Total (high first) (low first)
+  pub of-second : tallied f u ≡ Total (high second) (low second)
+  pub of-joined : tallied f (t ++ 0 ∷ u) ≡ Total (high (first + second)) (low (first + second))

@@ -14,7 +14,7 @@ ghost use Prim.Native.Nat.{_^_, _<_, _≤_};
 ghost use lib.ListN.{length};
 ghost use Rattle.basics.specs.Sums.{total};
 ghost use Rattle.matching.specs.Occurrence.{plain};
-ghost use Rattle.matching.specs.Occurrences.{occurrences, occurrencesIn};
+ghost use Rattle.matching.specs.Occurrences.{occurrencesIn};
 ghost use Rattle.matching.specs.Spans.{width};
 ghost use Rattle.counting.specs.Steps.Inputs.{Input};
 ghost use Rattle.counting.specs.Steps.Numbers.{value, val};
@@ -118,7 +118,7 @@ fn fill(f: Pattern, n: usize, fits: &[u8], lasts: &[u16], hi: &mut [u64], lo: &m
 }
 
 // The sum of n numbers.
-fn sum(n: usize, hi: &[u64], lo: &[u64]) -> Wide
+pub(crate) fn sum(n: usize, hi: &[u64], lo: &[u64]) -> Wide
     requires { ⌜ Room n (now hi) (now lo) ⌝ ∗ ⌜ total n (val (now hi) (now lo)) 0 < 2 ^ 128 ⌝ }
     ensures { λ r. ⌜ value r ≡ total n (val (now (hi .entry)) (now (lo .entry))) 0 ⌝ }
 {
@@ -135,23 +135,6 @@ fn sum(n: usize, hi: &[u64], lo: &[u64]) -> Wide
     s
 }
 
-// How many occurrences start at each of n places, in a column of zeros, and how many there are.
-fn fill_summed(
-    f: Pattern,
-    n: usize,
-    fits: &[u8],
-    lasts: &[u16],
-    hi: &mut [u64],
-    lo: &mut [u64],
-) -> Wide
-    requires { ⌜ Known f n (now fits) (now lasts) ⌝ ∗ ⌜ Blank n (now hi) (now lo) ⌝ }
-    ensures { λ r. ⌜ ((k : Known f n (now (fits .entry)) (now (lasts .entry))) → value r ≡ length (occurrencesIn f (knownView k))) ⌝ }
-    ensures { λ _. ⌜ ((k : Known f n (now (fits .entry)) (now (lasts .entry))) → Column f (knownView k) (now (hi .exit)) (now (lo .exit))) ⌝ }
-{
-    fill(f, n, fits, lasts, hi, lo);
-    sum(n, hi, lo)
-}
-
 // The number of all occurrences in n places.
 pub(crate) fn count(f: Pattern, n: usize, fits: &[u8], lasts: &[u16]) -> Wide
     requires { ⌜ Known f n (now fits) (now lasts) ⌝ }
@@ -159,18 +142,18 @@ pub(crate) fn count(f: Pattern, n: usize, fits: &[u8], lasts: &[u16]) -> Wide
 {
     let mut hi = [0u64; 20001];
     let mut lo = [0u64; 20001];
-    fill_summed(f, n, fits, lasts, &mut hi, &mut lo)
+    fill(f, n, fits, lasts, &mut hi, &mut lo);
+    sum(n, &hi, &lo)
 }
 
-// How many occurrences start at each word of a text, in a column of zeros that has room for one number more, and how many there are.
-pub(crate) fn fill_text(f: Pattern, t: &[u16], hi: &mut [u64], lo: &mut [u64]) -> Wide
+// How many occurrences start at each word of a text, in a column of zeros that has room for one number more.
+pub(crate) fn fill_text(f: Pattern, t: &[u16], hi: &mut [u64], lo: &mut [u64])
     requires { ⌜ Input f (plain f (now t)) ⌝ ∗ ⌜ Blank (length (now t)) (now hi) (now lo) ⌝ }
-    ensures { λ r. ⌜ value r ≡ length (occurrences f (now (t .entry))) ⌝ }
     ensures { λ _. ⌜ Column f (plain f (now (t .entry))) (now (hi .exit)) (now (lo .exit)) ⌝ }
 {
     let mut fits = [0u8; 320000];
     tabulate(f, t, &mut fits);
     let mut lasts = [0u16; 20000];
     horizons(t, &mut lasts);
-    fill_summed(f, t.len(), &fits, &lasts, hi, lo)
+    fill(f, t.len(), &fits, &lasts, hi, lo);
 }

@@ -2,7 +2,6 @@ ghost use mathlib.Core.Path.{_≡_};
 ghost use Prim.Native.Nat.{_+_, _-_, _^_, _<_, _≤_};
 ghost use lib.Dec.{ltb};
 ghost use Rattle.basics.specs.Choice.{pick};
-ghost use Rattle.counting.specs.Answers.{tooMany};
 ghost use Rattle.counting.specs.Steps.Numbers.{value};
 
 // A number below 2 ^ 128, in two halves.
@@ -47,14 +46,4 @@ pub(crate) fn sub(a: Wide, b: Wide) -> Wide
         hi: a.hi - b.hi - below(x, y),
         lo,
     }
-}
-
-// Whether it is more than 64 bits hold.
-pub(crate) fn too_many(a: Wide) -> bool
-    ensures { λ r. ⌜ r ≡ tooMany (value a) ⌝ }
-{
-    if 0 < a.hi {
-        return true;
-    }
-    false
 }

@@ -1,7 +1,6 @@
 use crate::column::count;
 use crate::fits::tabulate;
 use crate::gaps::Outline;
-use crate::halves::too_many;
 use crate::reach::reach_all;
 use crate::sentences::horizons;
 use crate::walk::walk;
@@ -147,7 +146,8 @@ pub fn all(pattern: Pattern, text: &[u16], list: &mut [u16]) -> Listed
     let mut lasts = [0u16; 20000];
     horizons(text, &mut lasts);
     let total = count(pattern, n, &fits, &lasts);
-    if too_many(total) {
+    // more rows than 64 bits hold have no room
+    if 0 < total.hi {
         return Listed::Refused(Refusal::ListLength(0));
     }
     let rows = total.lo as usize;

@@ -1,20 +1,22 @@
 use crate::column::fill_text;
-use crate::halves::too_many;
+use crate::column::sum;
 use pattern::Pattern;
 use pattern::Refusal;
 use pattern::Verdict;
 ghost use mathlib.Core.Path.{_≡_};
+ghost use Rattle.pattern.specs.declared.refusal.Refusal.the-variants.{Tally};
 ghost use Rattle.counting.specs.Answers.{tallied};
 
-// What the tally answers: how many occurrences there are, or why it counted none.
+// What the tally answers: how many occurrences there are, high times 2 ^ 64 plus low, or why it counted none.
 pub enum Tallied {
-    Total(u64),
+    Total { high: u64, low: u64 },
     Refused(Refusal),
 }
 
-// The number of all occurrences, where it is below 2 ^ 64 (document 01: the tally).
+// The number of all occurrences (document 01: the tally) in two halves. It never answers 9.
 pub fn tally(pattern: Pattern, text: &[u16]) -> Tallied
     ensures { λ r. ⌜ r ≡ tallied pattern (now (text .entry)) ⌝ }
+    ensures { λ r. ⌜ (r ≡ Tallied.Refused Tally → ⊥) ⌝ }
 {
     let verdict = pattern.check_with(text.len());
     if let Verdict::Refused(why) = verdict {
@@ -22,9 +24,10 @@ pub fn tally(pattern: Pattern, text: &[u16]) -> Tallied
     }
     let mut hi = [0u64; 20001];
     let mut lo = [0u64; 20001];
-    let total = fill_text(pattern, text, &mut hi, &mut lo);
-    if too_many(total) {
-        return Tallied::Refused(Refusal::Tally);
+    fill_text(pattern, text, &mut hi, &mut lo);
+    let total = sum(text.len(), &hi, &lo);
+    Tallied::Total {
+        high: total.hi,
+        low: total.lo,
     }
-    Tallied::Total(total.lo)
 }

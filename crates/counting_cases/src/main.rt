@@ -1,5 +1,5 @@
-// Cases of the tally, of the list of all occurrences and of the column at their limits: numbers about 2 ^ 64, and the rows of the
-// widest span.
+// Cases of the tally, of the list of all occurrences and of the column at their limits: numbers about 2 ^ 64 and far over it, and the rows
+// of the widest span.
 use counting::Started;
 use counting::Tallied;
 use libc::STDOUT_FILENO;
@@ -32,13 +32,20 @@ fn show_refusal(why: Refusal) {
     io::write_all(STDOUT_FILENO, b"\n");
 }
 
-// Writes the tally.
+// Writes two halves.
+fn show_halves(high: u64, low: u64) {
+    io::print_decimal(STDOUT_FILENO, high);
+    io::write_all(STDOUT_FILENO, b" ");
+    io::print_decimal(STDOUT_FILENO, low);
+}
+
+// Writes the two halves of the tally.
 fn show_tally(pattern: Pattern, text: &[u16]) {
     let answer = counting::tally(pattern, text);
     match answer {
-        Tallied::Total(n) => {
+        Tallied::Total { high, low } => {
             io::write_all(STDOUT_FILENO, b"tally ");
-            io::print_decimal(STDOUT_FILENO, n);
+            show_halves(high, low);
             io::write_all(STDOUT_FILENO, b"\n");
         }
         Tallied::Refused(why) => {
@@ -99,55 +106,57 @@ fn show_starts(pattern: Pattern, text: &[u16], list: &mut [u64]) {
     }
 }
 
-// Writes a number and a space.
-fn show_number(n: u64) {
-    io::print_decimal(STDOUT_FILENO, n);
-    io::write_all(STDOUT_FILENO, b" ");
+// Writes the halves of a number of the column.
+fn show_number(high: u64, low: u64) {
+    show_halves(high, low);
+    io::write_all(STDOUT_FILENO, b"; ");
 }
 
-// Writes in a line the numbers of words 1, 40, 41, 1000, 1001, 4489 to 4492, 4506 and the one past it.
-fn show_numbers(list: [u64; 4508]) {
-    show_number(list[0]);
-    show_number(list[39]);
-    show_number(list[40]);
-    show_number(list[999]);
-    show_number(list[1000]);
-    show_number(list[4488]);
-    show_number(list[4489]);
-    show_number(list[4490]);
-    show_number(list[4491]);
-    show_number(list[4505]);
-    show_number(list[4506]);
+// Writes in a line the halves of words 1, 40, 41, 1000, 1001, 4489 to 4492 and 4506, and what stands after it.
+fn show_numbers(list: [u64; 9016]) {
+    show_number(list[0], list[1]);
+    show_number(list[78], list[79]);
+    show_number(list[80], list[81]);
+    show_number(list[1998], list[1999]);
+    show_number(list[2000], list[2001]);
+    show_number(list[8976], list[8977]);
+    show_number(list[8978], list[8979]);
+    show_number(list[8980], list[8981]);
+    show_number(list[8982], list[8983]);
+    show_number(list[9010], list[9011]);
+    show_number(list[9012], list[9013]);
     io::write_all(STDOUT_FILENO, b"\n");
 }
 
 // Writes what the call for the column answers with a list of `room` nines, and some of the numbers then.
 fn show_column(pattern: Pattern, text: &[u16], room: usize) {
-    let mut list = [9u64; 4508];
-    if room <= 4508 {
+    let mut list = [9u64; 9016];
+    if room <= 9016 {
         show_starts(pattern, text, &mut list[..room]);
     }
     show_numbers(list);
 }
 
-// Texts of sevens at the limits of the tally, of the list and of the column.
+// Texts of sevens at the limits of the tally, of the list and of the column. The first is document 01's example of 9.
 fn main() {
-    let text = [7u16; 4507];
+    let text = [7u16; 20000];
     let wide = sevens(16, 63);
     show_tally(wide, &text[..1000]);
+    show_tally(wide, &text);
     show_room(wide, &text[..1000], 640);
+    show_column(wide, &text[..1000], 2000);
     let narrow = sevens(16, 10);
     show_tally(narrow, &text[..4506]);
-    show_tally(narrow, &text);
-    show_column(narrow, &text[..4506], 4508);
+    show_tally(narrow, &text[..4507]);
+    show_column(narrow, &text[..4506], 9016);
+    show_column(narrow, &text[..4506], 9012);
+    show_column(narrow, &text[..4506], 9011);
     show_column(narrow, &text[..4506], 4506);
-    show_column(narrow, &text[..4506], 4505);
-    show_column(narrow, &text, 4508);
-    show_column(narrow, &text, 4506);
+    show_column(narrow, &text[..4507], 9016);
     let longest = wide.with_span(961, 961);
     show_tally(longest, &text[..1000]);
     show_room(longest, &text[..1000], 640);
     show_room(longest, &text[..1000], 639);
-    show_column(longest, &text[..1000], 4508);
+    show_column(longest, &text[..1000], 9016);
     show_tally(Pattern::new(), &text);
 }

@@ -166,19 +166,31 @@ fn check_support(score: Score, count: usize, pattern: Pattern, text: &[u16]) -> 
     score.number(count as u64, got)
 }
 
-// The number of all occurrences, or the refusal's.
-fn tally_number(answer: Tallied) -> u64 {
+// The high half of a tally, or the refusal's number.
+fn high_number(answer: Tallied) -> u64 {
     match answer {
-        Tallied::Total(n) => n,
+        Tallied::Total { high, low } => high,
         Tallied::Refused(why) => refused(why),
     }
 }
 
-// The tally.
+// The low half of a tally, or the refusal's number.
+fn low_number(answer: Tallied) -> u64 {
+    match answer {
+        Tallied::Total { high, low } => low,
+        Tallied::Refused(why) => refused(why),
+    }
+}
+
+// The tally: the high half is 0.
 fn check_tally(score: Score, count: usize, pattern: Pattern, text: &[u16]) -> Score {
-    let got = tally_number(counting::tally(pattern, text));
-    show(b" tally ", got);
-    score.number(count as u64, got)
+    let got = counting::tally(pattern, text);
+    let high = high_number(got);
+    let low = low_number(got);
+    show(b" tally ", high);
+    show(b" ", low);
+    let first = score.number(0, high);
+    first.number(count as u64, low)
 }
 
 // The lists and counts of a text.

@@ -86,11 +86,11 @@ pub record Backed (f : Pattern) (t front after : List ℕ) (rows : ℕ) : Type 0
   pub some : 1 ≤ f .count
   pub room : length front ≤ 16000
   pub equal : length front ≡ length (take (length front - 0) after)
-  pub shown : (tally : ℕ) → tableReport rows tally (f .count) front (take (length front - 0) after) (length front) ≡ listsReport (f .count) (leftmost f t) (rightmost f t) tally
+  pub shown : (high low : ℕ) → tableReport rows high low (f .count) front (take (length front - 0) after) (length front) ≡ listsReport (f .count) (leftmost f t) (rightmost f t) high low
 
-same-table : {count rows n k : ℕ} (m tally : ℕ) {front flatFront back flatBack : List ℕ} → rows ≡ count → front ≡ flatFront → back ≡ flatBack → n ≡ k
-    → tableReport rows tally m front back n ≡ tableReport count tally m flatFront flatBack k
-same-table m tally a b d e = cc
+same-table : {count rows n k : ℕ} (m high low : ℕ) {front flatFront back flatBack : List ℕ} → rows ≡ count → front ≡ flatFront → back ≡ flatBack → n ≡ k
+    → tableReport rows high low m front back n ≡ tableReport count high low m flatFront flatBack k
+same-table m high low a b d e = cc
 
 back-of : {f : Pattern} {t front : List ℕ} (l : List ℕ) {rows : ℕ} {after : List ℕ} → length l ≡ 16000 → Best f t → Fronted f t rows front
     → after ≡ backWritten f t l → Backed f t front after rows
@@ -108,7 +108,7 @@ back-of {f} {t} {front} l {rows} {after} size best r e =
       some = input-accepted f (length t) .0 (r .accepted) .pattern .some;
       room = omega (arith, r .room);
       equal = omega (arith, ap length p);
-      shown = λ tally. same-table (f .count) tally (r .count) (r .places) p many;
+      shown = λ high low. same-table (f .count) high low (r .count) (r .places) p many;
     }
 
 -- ---- new lists of 16,000 places

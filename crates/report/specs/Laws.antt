@@ -1,3 +1,4 @@
 -- What follows from the definitions.
 pub mod Files
 pub mod Size
+pub mod Halves

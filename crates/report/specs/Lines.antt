@@ -14,9 +14,9 @@ use Rattle.format.specs.Shown.{closed, joined}
 abbrev pub refusalNames : List ℕ
 refusalNames = 114 ∷ 101 ∷ 102 ∷ 117 ∷ 115 ∷ 101 ∷ 100 ∷ 32 ∷ 112 ∷ 108 ∷ 97 ∷ 99 ∷ 101 ∷ []
 
--- `count tally`
+-- `count high low`
 abbrev pub countNames : List ℕ
-countNames = 99 ∷ 111 ∷ 117 ∷ 110 ∷ 116 ∷ 32 ∷ 116 ∷ 97 ∷ 108 ∷ 108 ∷ 121 ∷ []
+countNames = 99 ∷ 111 ∷ 117 ∷ 110 ∷ 116 ∷ 32 ∷ 104 ∷ 105 ∷ 103 ∷ 104 ∷ 32 ∷ 108 ∷ 111 ∷ 119 ∷ []
 
 -- `row slot front back`
 abbrev pub tableNames : List ℕ
@@ -43,10 +43,10 @@ entryLines m front back (suc n) = entryLines m front back n ++ (entryLine m fron
 abbrev pub refusalReport : Refusal → List ℕ
 refusalReport why = closed (refusalNames ∷ values (numberOf why ∷ placeOf why ∷ []) ∷ [])
 
--- the count, the tally, and the places of n entries
-abbrev pub tableReport : ℕ → ℕ → ℕ → List ℕ → List ℕ → ℕ → List ℕ
-tableReport count tally m front back n = closed (countNames ∷ values (count ∷ tally ∷ []) ∷ tableNames ∷ entryLines m front back n)
+-- the count, the halves of the tally, and the places of n entries
+abbrev pub tableReport : ℕ → ℕ → ℕ → ℕ → List ℕ → List ℕ → ℕ → List ℕ
+tableReport count high low m front back n = closed (countNames ∷ values (count ∷ high ∷ low ∷ []) ∷ tableNames ∷ entryLines m front back n)
 
 -- the front list and the back list, whose rows have m places
-abbrev pub listsReport : ℕ → List (List ℕ) → List (List ℕ) → ℕ → List ℕ
-listsReport m front back tally = tableReport (length front) tally m (flat front) (flat back) (length front * m)
+abbrev pub listsReport : ℕ → List (List ℕ) → List (List ℕ) → ℕ → ℕ → List ℕ
+listsReport m front back high low = tableReport (length front) high low m (flat front) (flat back) (length front * m)

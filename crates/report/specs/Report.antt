@@ -27,7 +27,7 @@ use Rattle.report.specs.Lines.{refusalReport, listsReport}
 
 -- by what the tally answers
 abbrev pub afterTally : Tallied → Pattern → List ℕ → List ℕ
-afterTally (Total n) f t = listsReport (f .count) (leftmost f t) (rightmost f t) n
+afterTally (Total high low) f t = listsReport (f .count) (leftmost f t) (rightmost f t) high low
 afterTally (NotTallied why) f t = refusalReport why
 
 -- by what the front list answers: the back list has as many rows

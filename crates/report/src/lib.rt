@@ -20,8 +20,12 @@ ghost use Prim.Native.Nat.{min};
 ghost use lib.ListN.{length};
 ghost use Rattle.counting.specs.Answers.{tallied};
 ghost use Rattle.basics.specs.Writing.{overlaid, Writes};
+ghost use Rattle.report.specs.Size.{reportBound};
 ghost use Rattle.report.specs.Report.{afterTally, searchReport, filesReport, reported};
 ghost use Rattle.report.specs.Steps.Fronts.{Fronted};
+
+// No report has more bytes than this: a line of names, the line of the count, another line of names, and a line for each of 16,000 entries.
+pub const REPORT_BOUND: usize = 15 + 48 + 20 + 16000 * 21;
 
 // Reports the tally, with the front list of so many rows and the back list, which has as many.
 fn tally_report(pattern: Pattern, text: &[u16], rows: usize, front: &[u16], out: &mut [u8]) -> usize
@@ -31,11 +35,11 @@ fn tally_report(pattern: Pattern, text: &[u16], rows: usize, front: &[u16], out:
     let total = tally(pattern, text);
     match total {
         Tallied::Refused(why) => put_refusal(out, why),
-        Tallied::Total(n) => {
+        Tallied::Total { high, low } => {
             let mut back = [0u16; 16000];
             rightmost(pattern, text, &mut back);
             let end = front.len();
-            put_lists(out, rows, n, pattern.count, front, &back[0..end])
+            put_lists(out, rows, high, low, pattern.count, front, &back[0..end])
         }
     }
 }
@@ -71,9 +75,11 @@ fn files_report(pattern: &[u8], text: &[u8], out: &mut [u8]) -> usize
     }
 }
 
-// Writes what the program prints for the input, as much of it as has room, and says how many bytes that is.
+// Writes what the program prints for the input, as much of it as has room, and says how many bytes that is; `REPORT_BOUND` bytes are room
+// for all of it.
 pub fn report(input: &[u8], out: &mut [u8]) -> usize
     ensures { λ r. ⌜ (r ≡ min (length (reported (now (input .entry)))) (length (now (out .entry)))) × (now (out .exit) ≡ overlaid (reported (now (input .entry))) (now (out .entry))) ⌝ }
+    ensures { λ _. do ⌜ reportBound ≡ (← ⟦crate::REPORT_BOUND⟧ .entry) ⌝ }
 {
     let n = input.len();
     if format::FILE < n {

@@ -27,6 +27,14 @@ fn put_entry(out: &mut [u8], at: usize, row: usize, slot: usize, front: u64, bac
     put_pair(out, third, front, back)
 }
 
+// Writes the line of the count and of the two halves of the tally.
+fn put_counts(out: &mut [u8], at: usize, count: usize, high: u64, low: u64) -> usize
+    ensures { λ r. ⌜ Writes (closed (values (count ∷ high ∷ low ∷ []) ∷ [])) (now (out .entry)) at (now (out .exit)) r ⌝ }
+{
+    let next = put_value(out, at, count as u64, b' ');
+    put_pair(out, next, high, low)
+}
+
 // Writes a line for each entry of the two lists, whose rows have m places.
 fn put_table(out: &mut [u8], at: usize, m: usize, front: &[u16], back: &[u16]) -> usize
     requires { ⌜ (1 ≤ m) × (length (now front) ≡ length (now back)) ⌝ }
@@ -48,20 +56,21 @@ fn put_table(out: &mut [u8], at: usize, m: usize, front: &[u16], back: &[u16]) -
     next
 }
 
-// Writes the count, the tally and the table.
+// Writes the count, the halves of the tally and the table.
 pub(crate) fn put_lists(
     out: &mut [u8],
     count: usize,
-    tally: u64,
+    high: u64,
+    low: u64,
     m: usize,
     front: &[u16],
     back: &[u16],
 ) -> usize
     requires { ⌜ (1 ≤ m) × (length (now front) ≡ length (now back)) ⌝ }
-    ensures { λ r. ⌜ Writes (tableReport count tally m (now (front .entry)) (now (back .entry)) (length (now (front .entry)))) (now (out .entry)) 0 (now (out .exit)) r ⌝ }
+    ensures { λ r. ⌜ Writes (tableReport count high low m (now (front .entry)) (now (back .entry)) (length (now (front .entry)))) (now (out .entry)) 0 (now (out .exit)) r ⌝ }
 {
-    let first = put_bytes(out, 0, b"count tally\n");
-    let second = put_pair(out, first, count as u64, tally);
+    let first = put_bytes(out, 0, b"count high low\n");
+    let second = put_counts(out, first, count, high, low);
     let third = put_bytes(out, second, b"row slot front back\n");
     put_table(out, third, m, front, back)
 }

@@ -28,11 +28,14 @@ fn show_count(pattern: Pattern, text: &[u16]) {
     }
 }
 
-// Writes the tally.
+// Writes the two halves of the tally.
 fn show_tally(pattern: Pattern, text: &[u16]) {
     let answer = counting::tally(pattern, text);
     match answer {
-        Tallied::Total(n) => show(b" tally ", n),
+        Tallied::Total { high, low } => {
+            show(b" tally ", high);
+            show(b" ", low);
+        }
         Tallied::Refused(why) => show_refusal(why),
     }
 }

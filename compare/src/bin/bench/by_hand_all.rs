@@ -1,5 +1,6 @@
 //! The library's tally, its column and its list of all occurrences, written by hand in ordinary safe Rust.
 
+use compare::halves::halves;
 use compare::layout::{Pattern, Slot};
 use std::mem::swap;
 
@@ -216,24 +217,23 @@ impl Walk<'_> {
     }
 }
 
-/// How many occurrences there are, if that is below 2^64.
-pub fn tally(pattern: &Pattern, text: &[u16]) -> Option<u64> {
-    Input::new(pattern, text).total(|_, _| ()).try_into().ok()
+/// How many occurrences there are.
+pub fn tally(pattern: &Pattern, text: &[u16]) -> u128 {
+    Input::new(pattern, text).total(|_, _| ())
 }
 
-/// Writes how many occurrences start at each word, if all together are below 2^64, and says how many words there are.
-pub fn starts(pattern: &Pattern, text: &[u16], list: &mut [u64]) -> Option<u64> {
-    let mut numbers = vec![0; text.len()];
-    let total = Input::new(pattern, text).total(|window, sums| {
+/// Writes how many occurrences start at each word, high half before low, and says how many words there are.
+pub fn starts(pattern: &Pattern, text: &[u16], list: &mut [u64]) -> u64 {
+    let (column, _) = list[..2 * text.len()].as_chunks_mut();
+    column.fill([0, 0]);
+    Input::new(pattern, text).total(|window, sums| {
         let width = window.widths[0];
-        let entries = &mut numbers[window.start..window.start + width];
-        for (number, sums) in entries.iter_mut().zip(sums[..=width].windows(2)) {
-            *number = (sums[0] - sums[1]) as u64;
+        let entries = &mut column[window.start..window.start + width];
+        for (entry, sums) in entries.iter_mut().zip(sums[..=width].windows(2)) {
+            *entry = halves(sums[0] - sums[1]);
         }
     });
-    u64::try_from(total).ok()?;
-    list[..text.len()].copy_from_slice(&numbers);
-    Some(text.len() as u64)
+    text.len() as u64
 }
 
 /// Writes all occurrences, if they have room, and says how many there are.

@@ -3,13 +3,11 @@
 use crate::{by_hand, by_hand_all, by_hand_file, by_hand_merge};
 use compare::cases::written::MOST_BYTES;
 use compare::ffi;
-use compare::layout::{Answer, Found, Made, Pattern};
+use compare::halves::whole;
+use compare::layout::{Answer, Found, Made, Pattern, Total};
 use std::fmt;
 use std::hint::black_box;
 use std::process::exit;
-
-/// The refusal's number for a tally past 64 bits.
-const TALLY: u32 = 9;
 
 /// How many searches make up a call that searches.
 const SEARCHES: usize = 100;
@@ -90,11 +88,18 @@ fn refused(number: u32) -> ! {
     fail(&format!("the library refused a call with number {number}"))
 }
 
-/// The answer's value; nothing for a tally past 64 bits.
-fn value(answer: Answer) -> Option<u64> {
+/// The answer's value.
+fn value(answer: Answer) -> u128 {
     match answer.number {
-        0 => Some(answer.value),
-        TALLY => None,
+        0 => answer.value as u128,
+        number => refused(number),
+    }
+}
+
+/// The total's number.
+fn total(total: Total) -> u128 {
+    match total.number {
+        0 => whole(total.high, total.low),
         number => refused(number),
     }
 }
@@ -108,18 +113,23 @@ fn places(found: Found) -> Option<[u16; 16]> {
 }
 
 /// The pattern that a call made.
-fn made(made: Made) -> Option<Pattern> {
+fn made(made: Made) -> Pattern {
     match made.number {
-        0 => Some(made.pattern),
+        0 => made.pattern,
         number => refused(number),
     }
+}
+
+/// What a call by hand gives; ends the run if it refuses.
+fn answered<T>(answer: Option<T>) -> T {
+    answer.unwrap_or_else(|| fail("by hand refused a call"))
 }
 
 /// A search with a pattern, a text and marks: the places of the row that it finds.
 type Search = fn(&Pattern, &[u16], &[u16]) -> Option<[u16; 16]>;
 
 /// Searches past evenly spaced marks, the same at every slot: how many rows there are. They are written one after the other.
-fn searches(call: Call, search: Search, pattern: &Pattern, text: &[u16], list: &mut [u16]) -> u64 {
+fn searches(call: Call, search: Search, pattern: &Pattern, text: &[u16], list: &mut [u16]) -> u128 {
     let mut rows = 0;
     let mut room = list.chunks_exact_mut(pattern.count);
     for k in 0..SEARCHES {
@@ -135,11 +145,11 @@ fn searches(call: Call, search: Search, pattern: &Pattern, text: &[u16], list: &
 }
 
 /// A call that writes a pattern's file: how many bytes.
-type Write = fn(&Pattern, &mut [u8]) -> Option<u64>;
+type Write = fn(&Pattern, &mut [u8]) -> u128;
 
 /// Writes the pattern's file again and again: how many bytes it has.
-fn files(write: Write, pattern: &Pattern, bytes: &mut [u8]) -> Option<u64> {
-    (0..FILES).map(|_| write(black_box(pattern), black_box(bytes))).last()?
+fn files(write: Write, pattern: &Pattern, bytes: &mut [u8]) -> u128 {
+    (0..FILES).fold(0, |_, _| write(black_box(pattern), black_box(bytes)))
 }
 
 /// Merges the patterns again and again: what the last merge answers.
@@ -151,45 +161,46 @@ fn merges<M>(merge: fn(&Pattern, &Pattern) -> M, first: &Pattern, second: &Patte
 }
 
 /// Keeps the pattern that was made: how many words it lists.
-fn keep(made: Option<Pattern>, lists: &mut Lists) -> Option<u64> {
-    lists.made = made;
-    let words = made?.slots.iter().map(|slot| slot.count as u64).sum();
-    Some(words)
+fn keep(made: Pattern, lists: &mut Lists) -> u128 {
+    lists.made = Some(made);
+    made.slots.iter().map(|slot| slot.count as u128).sum()
 }
 
 /// The library's call: its value, and what it writes to the lists.
-pub fn library(call: Call, given: &Given, lists: &mut Lists) -> Option<u64> {
+pub fn library(call: Call, given: &Given, lists: &mut Lists) -> u128 {
     let Given { pattern, second, text } = given;
     let list = &mut lists.places[..];
     match call {
         Call::Front => value(ffi::leftmost(pattern, text, list)),
         Call::Back => value(ffi::rightmost(pattern, text, list)),
         Call::Count => value(ffi::support(pattern, text)),
-        Call::Tally => value(ffi::tally(pattern, text)),
+        Call::Tally => total(ffi::tally(pattern, text)),
         Call::Starts => value(ffi::starts(pattern, text, &mut lists.numbers)),
         Call::All => value(ffi::all(pattern, text, list)),
-        Call::Forward => Some(searches(call, |p, t, m| places(ffi::first_after(p, t, m)), pattern, text, list)),
-        Call::Backward => Some(searches(call, |p, t, m| places(ffi::last_before(p, t, m)), pattern, text, list)),
+        Call::Forward => searches(call, |p, t, m| places(ffi::first_after(p, t, m)), pattern, text, list),
+        Call::Backward => searches(call, |p, t, m| places(ffi::last_before(p, t, m)), pattern, text, list),
         Call::Write => files(|p, bytes| value(ffi::write_pattern(p, bytes)), pattern, &mut lists.bytes),
         Call::Merge => keep(made(merges(ffi::merge, pattern, second)), lists),
     }
 }
 
 /// The same by hand.
-pub fn by_hand(call: Call, given: &Given, lists: &mut Lists) -> Option<u64> {
+pub fn by_hand(call: Call, given: &Given, lists: &mut Lists) -> u128 {
     let Given { pattern, second, text } = given;
     let list = &mut lists.places[..];
     match call {
-        Call::Front => Some(by_hand::leftmost(pattern, text, list) as u64),
-        Call::Back => Some(by_hand::rightmost(pattern, text, list) as u64),
-        Call::Count => Some(by_hand::support(pattern, text) as u64),
+        Call::Front => by_hand::leftmost(pattern, text, list) as u128,
+        Call::Back => by_hand::rightmost(pattern, text, list) as u128,
+        Call::Count => by_hand::support(pattern, text) as u128,
         Call::Tally => by_hand_all::tally(pattern, text),
-        Call::Starts => by_hand_all::starts(pattern, text, &mut lists.numbers),
-        Call::All => by_hand_all::all(pattern, text, list),
-        Call::Forward => Some(searches(call, by_hand::first_after, pattern, text, list)),
-        Call::Backward => Some(searches(call, by_hand::last_before, pattern, text, list)),
-        Call::Write => files(by_hand_file::write_pattern, pattern, &mut lists.bytes),
-        Call::Merge => keep(merges(by_hand_merge::merge, pattern, second), lists),
+        Call::Starts => by_hand_all::starts(pattern, text, &mut lists.numbers) as u128,
+        Call::All => answered(by_hand_all::all(pattern, text, list)) as u128,
+        Call::Forward => searches(call, by_hand::first_after, pattern, text, list),
+        Call::Backward => searches(call, by_hand::last_before, pattern, text, list),
+        Call::Write => {
+            files(|p, bytes| answered(by_hand_file::write_pattern(p, bytes)) as u128, pattern, &mut lists.bytes)
+        }
+        Call::Merge => keep(answered(merges(by_hand_merge::merge, pattern, second)), lists),
     }
 }
 
@@ -201,11 +212,11 @@ pub fn room(call: Call, given: &Given) -> Lists {
         Call::Forward | Call::Backward => SEARCHES,
         Call::Count | Call::Tally | Call::Starts | Call::Write | Call::Merge => 0,
         Call::All => match by_hand_all::tally(pattern, text) {
-            Some(rows) if rows < 10_000_000 => rows as usize,
+            rows @ 0..10_000_000 => rows as usize,
             _ => fail("a case has too many occurrences to list"),
         },
     };
-    let numbers = if call == Call::Starts { text.len() } else { 0 };
+    let numbers = if call == Call::Starts { 2 * text.len() } else { 0 };
     let bytes = if call == Call::Write { MOST_BYTES } else { 0 };
     Lists { places: vec![0; rows * pattern.count], numbers: vec![0; numbers], bytes: vec![0; bytes], made: None }
 }

@@ -4,6 +4,7 @@ use crate::calls::{fail, library, room, Call};
 use crate::cases::{cases, Case, Measured, Rival, Rivals, LIMIT_MS};
 use crate::clock::rivals;
 use crate::texts::{Kind, Spans, WORDS};
+use compare::halves::{sum, wholes};
 
 /// A measured figure, and the case it belongs to.
 type Figure = (f64, Case);
@@ -81,11 +82,11 @@ fn against_count() -> Vec<Figure> {
 fn against_tally() -> Vec<Figure> {
     let mut figures = Vec::new();
     for case in cases().into_iter().filter(|case| case.call == Call::Starts) {
-        let (mut ready, words) = case.compared(WORDS);
+        let (mut ready, _) = case.compared(WORDS);
         let given = ready.given.clone();
         let mut lists = room(Call::Tally, &given);
         let mut tally = || library(Call::Tally, &given, &mut lists);
-        if tally() != words.map(|_| ready.lists.numbers.iter().sum()) {
+        if tally() != sum(&wholes(&ready.lists.numbers)) {
             fail(&format!("column and tally differ: {}", case.describe()));
         }
         figures.push((rivals(|| ready.library(), tally).ratio, case));

@@ -1,12 +1,13 @@
--- Laws of sums over runs of consecutive numbers, and of lists gathered over the members of a list.
+-- Laws of sums over runs of consecutive numbers and over lists, and of lists gathered over the members of a list.
 use Prim.Native.Nat.{ℕ, zero, suc, _+_, _-_, _*_, _≤_, _<_}
 use native.Mathlib.Nat.{suc-mul}
 use native.Mathlib.Omega.{arith}
 use mathlib.Core.Path.{_≡_, refl}
-use mathlib.Core.List.{List, List·Memᴰ, List·Memᴰ·head, List·Memᴰ·tail, Memᴰ·append-left, Memᴰ·append-right}
+use mathlib.Core.List.{List, [], _∷_, List·Memᴰ, List·Memᴰ·head, List·Memᴰ·tail, Memᴰ·append-left, Memᴰ·append-right}
+use lib.ListN.{getD}
 use Rattle.basics.specs.Collections.{Every, none, more}
 use Rattle.basics.specs.Laws.Collections.{every-append}
-use Rattle.basics.specs.Sums.{total, rest, gather}
+use Rattle.basics.specs.Sums.{total, rest, sum, gather}
 
 -- a sum in two parts
 pub total-split : (m n k : ℕ) (v : ℕ → ℕ) (p q : ℕ) → k ≡ m + n → q ≡ p + m → total k v p ≡ total m v p + total n v q
@@ -59,6 +60,13 @@ pub run-past : (v : ℕ → ℕ) (stop n x : ℕ) → ((q : ℕ) → stop ≤ q 
 unfolding rest
 run-past v stop n x z h k =
     omega (arith, total-split (stop - x) (x + n - stop) n v x stop (omega arith) (omega arith), total-none (x + n - stop) v stop z)
+
+-- no member is more than the sum of the list
+pub sum-at : (ns : List ℕ) (i : ℕ) → getD ns i 0 ≤ sum ns
+unfolding sum
+sum-at [] i = omega arith
+sum-at (n ∷ ns) zero = omega arith
+sum-at (n ∷ ns) (suc i) = omega (arith, sum-at ns i)
 
 module _ {A : Type 0} where
   -- a member of a list that is gathered is gathered

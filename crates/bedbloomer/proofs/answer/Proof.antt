@@ -19,8 +19,8 @@ returns c =
     let start = c .before .before .before .before .before .before in
     let a = start .args in
     let r = c .before .before .report in
-    let within = writes-within (reported (a .input .now)) (a .out .now) (r .ensures) in
-    ((within, sym (length-take-le (r .result) (r .last .1 .0) within)), report-whole (a .input .now) (a .out .now) (start .pre) (r .ensures))
+    let within = writes-within (reported (a .input .now)) (a .out .now) (r .ensures .0) in
+    ((within, sym (length-take-le (r .result) (r .last .1 .0) within)), report-whole (a .input .now) (a .out .now) (start .pre) (r .ensures .0))
 
 pub answer-spec : {M : Type 1} → statement M
 answer-spec = tie.close (tie.spec report-requires same-length returns)

@@ -12,7 +12,6 @@ use borrow.Author.Tests.{ne-eqb}
 use Rattle.basics.specs.Laws.Collections.{every-map, map-every, select-none, select-append, select-map}
 use Rattle.basics.specs.Laws.Choice.{eqb-shifted}
 use Rattle.pattern.specs.declared.Pattern.{Pattern}
-use Rattle.pattern.specs.declared.refusal.Verdict.{Verdict}
 use Rattle.pattern.specs.declared.refusal.Verdict.the-variants.{Accepted}
 use Rattle.pattern.specs.Tests.{inputVerdict}
 use Rattle.pattern.specs.Accepted.{Accepted as AcceptedPattern}
@@ -23,13 +22,13 @@ use Rattle.matching.specs.Joining.{shifted}
 use Rattle.matching.specs.Laws.Enumeration.{occurrences-occur}
 use Rattle.matching.specs.Laws.Joining.{joined-input, joined-texts}
 use Rattle.matching.specs.Laws.Pieces.{at-shifted}
+use Rattle.counting.specs.declared.total.Tallied.the-variants.{Total}
 use Rattle.counting.specs.Starts.{startsAt, column}
-use Rattle.counting.specs.Answers.{totalOf, talliedAfter}
+use Rattle.counting.specs.Halves.{high, low, halves}
 use Rattle.counting.specs.Joining.{TalliesAdd}
+use Rattle.counting.specs.Laws.Halves.{halves-append}
 use Rattle.counting.specs.Laws.Starts.{column-length, column-at}
-
-tallied-total : {o : Verdict} → o ≡ Accepted → (n : ℕ) → talliedAfter o n ≡ totalOf n
-tallied-total e n = ap (λ (o : Verdict). talliedAfter o n) e
+use Rattle.counting.specs.Laws.Nine.{tallied-halves}
 
 -- where the joined text passes the tests, its tally is the sum of the two
 pub tallies-add : (f : Pattern) (t u : List ℕ) → inputVerdict f (length (t ++ 0 ∷ u)) ≡ Accepted → TalliesAdd f t u
@@ -38,9 +37,11 @@ tallies-add f t u e =
     record {
       first = length (occurrences f t);
       second = length (occurrences f u);
-      of-first = tallied-total (b .0) (length (occurrences f t));
-      of-second = tallied-total (b .1) (length (occurrences f u));
-      of-joined = tallied-total e (length (occurrences f (t ++ 0 ∷ u))) ∙ ap totalOf (joined-texts (input-accepted f (length (t ++ 0 ∷ u)) .0 e .pattern) t u .tally);
+      of-first = tallied-halves f t (b .0);
+      of-second = tallied-halves f u (b .1);
+      of-joined =
+          tallied-halves f (t ++ 0 ∷ u) e
+          ∙ ap (λ (n : ℕ). Total (high n) (low n)) (joined-texts (input-accepted f (length (t ++ 0 ∷ u)) .0 e .pattern) t u .tally);
     }
 
 -- ---- the column
@@ -111,3 +112,8 @@ module _ {f : Pattern} (ok : AcceptedPattern f) (t u : List ℕ) where
               here ∙ rw p (in-second (k + 1)) ∙ sym (there ∙ column-at f u k (omega arith))
         ]
       ])
+
+  -- and so in halves, as it is written
+  pub halves-joined : halves (column f (t ++ 0 ∷ u)) ≡ halves (column f t) ++ 0 ∷ 0 ∷ halves (column f u)
+  unfolding halves
+  halves-joined = ap halves column-joined ∙ halves-append (column f t) (0 ∷ column f u)

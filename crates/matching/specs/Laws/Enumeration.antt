@@ -2,16 +2,16 @@
 use Prim.Native.Nat.{ℕ, zero, suc, _+_, _≤_, _<_}
 use native.Mathlib.Decide.{ℕ-discrete}
 use native.Mathlib.Omega.{arith}
-use mathlib.Core.Path.{_≡_, refl, ap}
+use mathlib.Core.Path.{_≡_, refl, ap, _∙_}
 use mathlib.Core.Logic.{_↔_}
 use mathlib.Core.List.{List, [], _∷_, map, List·Memᴰ, List·Memᴰ·head, List·Memᴰ·tail, Memᴰ·append-left, Memᴰ·append-right, Memᴰ·map}
-use lib.ListN.{length, getD}
+use lib.ListN.{length, getD, length-map}
 use Rattle.pattern.specs.declared.Pattern.{Pattern}
 use Rattle.matching.specs.Occurrence.{View, OccursIn, at}
 use Rattle.basics.specs.Collections.{Every, Pairwise, none, more}
 use Rattle.basics.specs.Sums.{total, sum}
 use Rattle.matching.specs.Occurrences.{occursIn, places, extend, rows, Lex, here, after, occurrencesIn}
-use Rattle.basics.specs.Laws.Collections.{every-of, every-map, every-mem, every-append, pairwise-append, map-every, map-pairwise, select-every, select-pairwise, select-mem}
+use Rattle.basics.specs.Laws.Collections.{every-of, every-map, every-mem, every-append, pairwise-append, map-at, map-every, map-pairwise, select-every, select-pairwise, select-mem}
 use Rattle.matching.specs.Laws.Tests.{occurs-iff}
 
 pub places-mem : (p n q : ℕ) → p ≤ q → q < p + n → List·Memᴰ q (places p n)
@@ -29,6 +29,14 @@ unfolding places
 places-at p zero i h = absurd (omega arith)
 places-at p (suc n) zero h = omega arith
 places-at p (suc n) (suc i) h = omega (arith, places-at (suc p) n i (omega arith))
+
+-- a number for each of the places
+module _ (v : ℕ → ℕ) (p n : ℕ) where
+  pub each-length : length (map v (places p n)) ≡ n
+  each-length = length-map (places p n) v ∙ places-length p n
+
+  pub each-at : (i : ℕ) → i < n → getD (map v (places p n)) i 0 ≡ v (p + i)
+  each-at i h = map-at v (places p n) 0 0 i (omega (arith, places-length p n)) ∙ ap v (places-at p n i h)
 
 pub places-sum : (v : ℕ → ℕ) (p n : ℕ) → sum (map v (places p n)) ≡ total n v p
 unfolding sum total places

@@ -1,5 +1,6 @@
 -- `report::report` meets its contract: the length is tested, then the files are parted where the specification parts them.
 use native.Mathlib.Omega.{arith}
+use mathlib.Core.Path.{refl}
 use Rattle.report.specs.Laws.Files.{parting-within}
 use Rattle.basics.specs.Laws.Writing.{writes-same, writes-all}
 use Rattle.report.proofs.Reading.{long-input, input-parted}
@@ -14,7 +15,7 @@ same-length : tie.Need-same-length
 same-length c = search needs
 
 returns : tie.Need-returns
-returns c = writes-all (writes-same (long-input (c .before .before .before .before .before .before .before .args .input .now) (c .before .before .before .before .if1 .taken)) (c .before .before .put-refusal .ensures))
+returns c = (writes-all (writes-same (long-input (c .before .before .before .before .before .before .before .args .input .now) (c .before .before .before .before .if1 .taken)) (c .before .before .put-refusal .ensures)), refl)
 
 parted-requires : tie.Need-parted-requires
 parted-requires c κs = search needs
@@ -54,7 +55,8 @@ returns-2 c =
     let input = c .before .before .before .before .before .before .before .before .before .before .before .args .input .now in
     let e = c .before .before .before .before .before .before .before .parted in
     let start = c .before .before .before .before .before .before .smaller in
-    writes-all (writes-same (input-parted input (e .result) (start .result) (c .before .before .before .before .before .before .before .before .if1 .left) (e .ensures) (start .ensures)) (c .before .before .files-report .ensures))
+    let parted = input-parted input (e .result) (start .result) (c .before .before .before .before .before .before .before .before .if1 .left) (e .ensures) (start .ensures) in
+    (writes-all (writes-same parted (c .before .before .files-report .ensures)), refl)
 
 pub report-spec : {M : Type 1} → statement M
 report-spec =

@@ -44,7 +44,7 @@ same-length : tie.Need-same-length
 same-length c = search needs
 
 returns : tie.Need-returns
-returns c = simp (sym (c .before .before .before .before .before .before .before .tally .ensures) ∙ c .before .before .before .before .before .total .given .1) (c .before .before .put-refusal .ensures)
+returns c = simp (sym (c .before .before .before .before .before .before .before .tally .ensures .0) ∙ c .before .before .before .before .before .total .given .1) (c .before .before .put-refusal .ensures)
 
 same-length-2 : tie.Need-same-length-2
 same-length-2 c = search needs
@@ -52,7 +52,7 @@ same-length-2 c = search needs
 returns-2 : tie.Need-returns-2
 returns-2 c =
     let n = c .before .before .before .before .before .before .before .before .before .before .total2 .given in
-    simp (sym (c .before .before .before .before .before .before .before .before .before .before .before .before .tally .ensures) ∙ n .1) (writes-same (back (c .before .before .before .before .before .before .before) .shown (n .0 .0)) (c .before .before .put-lists .ensures))
+    simp (sym (c .before .before .before .before .before .before .before .before .before .before .before .before .tally .ensures .0) ∙ n .1) (writes-same (back (c .before .before .before .before .before .before .before) .shown (n .0 .0) (n .0 .1 .0)) (c .before .before .put-lists .ensures))
 
 pub tally-report-spec : {M : Type 1} → statement M
 tally-report-spec =

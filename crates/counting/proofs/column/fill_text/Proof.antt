@@ -18,21 +18,21 @@ start c = c .before .before .before .before
 abbrev table-at : tie.After-lasts → tie.After-tabulate
 table-at c = c .before .before
 
-abbrev horizons-at : tie.After-fill-summed-arg2 → tie.After-horizons
+abbrev horizons-at : tie.After-fill-arg2 → tie.After-horizons
 horizons-at c = c .before .before .before .before .before
 
-abbrev fits-at : tie.After-fill-summed-arg2 → tie.After-tabulate
+abbrev fits-at : tie.After-fill-arg2 → tie.After-tabulate
 fits-at c = table-at (horizons-at c .before)
 
-abbrev entry : tie.After-fill-summed-arg2 → tie.Start
+abbrev entry : tie.After-fill-arg2 → tie.Start
 entry c = start (fits-at c .before)
 
-abbrev summed-at : tie.After-slice-known4 → tie.After-fill-summed
-summed-at c = c .before .before .before .before
+abbrev filled-at : tie.After-slice-known4 → tie.After-fill
+filled-at c = c .before .before .before .before
 
 -- ---- what is known there
 
-abbrev table : (c : tie.After-fill-summed-arg2)
+abbrev table : (c : tie.After-fill-arg2)
     → Known (entry c .args .f) (length (entry c .args .t .now)) (fits-at c .tabulate .last .1 .1 .0) (horizons-at c .horizons .last .1 .0)
 table c = known (entry c .pre .0) (fits-at c .tabulate .ensures) (horizons-at c .horizons .ensures (entry c .args .f))
 
@@ -48,14 +48,14 @@ slice-aggregate-horizons c = sym (length-replicate {A = ℕ} 20000 0)
 horizons-requires : tie.Need-horizons-requires
 horizons-requires c κs = let h = start (table-at c .before) .pre .0 .short in (h, omega (arith, long-new 20000))
 
-slice-aggregate-fill-summed : tie.Need-slice-aggregate-fill-summed
-slice-aggregate-fill-summed c = search needs
+slice-aggregate-fill : tie.Need-slice-aggregate-fill
+slice-aggregate-fill c = search needs
 
-slice-aggregate-fill-summed-2 : tie.Need-slice-aggregate-fill-summed-2
-slice-aggregate-fill-summed-2 c = search needs
+slice-aggregate-fill-2 : tie.Need-slice-aggregate-fill-2
+slice-aggregate-fill-2 c = search needs
 
-fill-summed-requires : tie.Need-fill-summed-requires
-fill-summed-requires c κs = (table c, entry c .pre .1)
+fill-requires : tie.Need-fill-requires
+fill-requires c κs = (table c, entry c .pre .1)
 
 same-length : tie.Need-same-length
 same-length c = search needs
@@ -64,7 +64,7 @@ same-length-2 : tie.Need-same-length-2
 same-length-2 c = search needs
 
 returns : tie.Need-returns
-returns c = let q = summed-at c in let k = table (q .before) in (q .fill-summed .ensures .0 k, q .fill-summed .ensures .1 k)
+returns c = let q = filled-at c in q .fill .ensures (table (q .before))
 
 pub fill-text-spec : {M : Type 1} → statement M
 fill-text-spec =
@@ -74,9 +74,9 @@ fill-text-spec =
     tabulate-requires
     slice-aggregate-horizons
     horizons-requires
-    slice-aggregate-fill-summed
-    slice-aggregate-fill-summed-2
-    fill-summed-requires
+    slice-aggregate-fill
+    slice-aggregate-fill-2
+    fill-requires
     same-length
     same-length-2
     returns)

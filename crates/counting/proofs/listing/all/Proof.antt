@@ -2,14 +2,12 @@
 use Prim.Native.Nat.{ℕ, _<_, _^_}
 use native.Mathlib.Omega.{arith}
 use mathlib.Core.Path.{_≡_, sym, _∙_}
-use mathlib.Core.Bool.{false}
 use lib.ListN.{length, length-replicate}
 use Rattle.pattern.specs.Tests.{inputVerdict}
 use Rattle.pattern.specs.declared.refusal.Verdict.the-variants.{Accepted}
 use Rattle.matching.specs.Occurrence.{plain}
 use Rattle.matching.specs.Occurrences.{occurrences}
 use Rattle.counting.specs.Steps.Inputs.{Input}
-use Rattle.counting.specs.Answers.{tooMany}
 use Rattle.counting.specs.Steps.Numbers.{value}
 use Rattle.counting.specs.Laws.Inputs.{passed}
 use Rattle.counting.specs.Steps.Plans.{Known}
@@ -37,10 +35,10 @@ horizons-at c = c .before .before .before
 abbrev fits-at : tie.After-lasts3 → tie.After-tabulate
 fits-at c = table-at (horizons-at c .before)
 
-abbrev count-at : tie.After-too-many → tie.After-count
+abbrev count-at : tie.After-struct-known → tie.After-count
 count-at c = c .before
 
-abbrev narrow-at : tie.After-struct-known → tie.Else1
+abbrev narrow-at : tie.After-struct-known2 → tie.Else1
 narrow-at c = c .before
 
 abbrev room-at : tie.After-put-all-arg → tie.Else2
@@ -63,13 +61,6 @@ table c = known (ok (fits-at c .before)) (fits-at c .tabulate .ensures) (horizon
 
 short : (c : tie.After-slice-known) → length (c .before .before .args .list .now) < 2 ^ 64
 short c = omega arith
-
--- whether the number is more than 64 bits hold
-told : (c : tie.After-too-many) → tooMany (value (count-at c .count .result)) ≡ c .too-many .result
-told c = sym (c .too-many .ensures)
-
-narrow : (c : tie.Else1) → tooMany (value (count-at (c .before) .count .result)) ≡ false
-narrow c = told (c .before) ∙ c .if1 .left
 
 -- where the number is known
 abbrev first : tie.After-count → tie.After-fits2
@@ -114,19 +105,16 @@ slice-aggregate-count-2 c = search needs
 count-requires : tie.Need-count-requires
 count-requires c κs = table c
 
-too-many-requires : tie.Need-too-many-requires
-too-many-requires c κs = search needs
-
 returns-2 : tie.Need-returns-2
 returns-2 c = let k = count-at (c .before) in let b = first k in let a = start b .args in
-    all-short (a .pattern) (a .text .now) (a .list .now) (accepted b) (all-wide (a .pattern) (a .text .now) (a .list .now) (ok b .pattern .some) (k .count .result) (number k) (told (c .before) ∙ c .if1 .taken) (short (check-at b .before)))
+    all-short (a .pattern) (a .text .now) (a .list .now) (accepted b) (all-wide (a .pattern) (a .text .now) (a .list .now) (ok b .pattern .some) (k .count .result) (number k) (c .if1 .taken) (short (check-at b .before)))
 
 div-if2 : tie.Need-div-if2
 div-if2 c = let k = count-at (narrow-at c .before) in omega (arith, ok (first k) .pattern .some)
 
 returns-3 : tie.Need-returns-3
 returns-3 c = let e = narrow-at (c .before) in let k = count-at (e .before) in let b = first k in let a = start b .args in
-    all-short (a .pattern) (a .text .now) (a .list .now) (accepted b) (all-over (a .pattern) (a .text .now) (a .list .now) (ok b .pattern .some) (k .count .result) (number k) (narrow e) (c .if2 .taken))
+    all-short (a .pattern) (a .text .now) (a .list .now) (accepted b) (all-over (a .pattern) (a .text .now) (a .list .now) (ok b .pattern .some) (k .count .result) (number k) (e .if1 .left) (c .if2 .taken))
 
 slice-aggregate-put-all : tie.Need-slice-aggregate-put-all
 slice-aggregate-put-all c = search needs
@@ -141,7 +129,7 @@ put-all-requires c κs =
     let k = count-at (e .before) in
     let b = first k in
     let a = start b .args in
-    record { known = table (k .before); room = all-room (a .pattern) (a .text .now) (a .list .now) (ok b .pattern .some) (k .count .result) (number k) (narrow e) (r .if2 .left) }
+    record { known = table (k .before); room = all-room (a .pattern) (a .text .now) (a .list .now) (ok b .pattern .some) (k .count .result) (number k) (e .if1 .left) (r .if2 .left) }
 
 same-length : tie.Need-same-length
 same-length c = search needs
@@ -155,8 +143,8 @@ returns-4 c =
     let b = first k in
     let a = start b .args in
     let some = ok b .pattern .some in let w = k .count .result in let n = number k in
-    let room = all-room (a .pattern) (a .text .now) (a .list .now) some w n (narrow e) (r .if2 .left) in
-    all-fine (a .pattern) (a .text .now) (a .list .now) (accepted b) room (all-rows (a .pattern) (a .text .now) (a .list .now) some w n (narrow e))
+    let room = all-room (a .pattern) (a .text .now) (a .list .now) some w n (e .if1 .left) (r .if2 .left) in
+    all-fine (a .pattern) (a .text .now) (a .list .now) (accepted b) room (all-rows (a .pattern) (a .text .now) (a .list .now) some w n (e .if1 .left))
     (p .put-all .ensures (record { known = table (k .before); room = room }))
 
 pub all-spec : {M : Type 1} → statement M
@@ -174,7 +162,6 @@ all-spec =
     slice-aggregate-count
     slice-aggregate-count-2
     count-requires
-    too-many-requires
     returns-2
     div-if2
     returns-3

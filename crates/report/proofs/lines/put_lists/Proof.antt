@@ -14,8 +14,8 @@ slice-aggregate-put-bytes c = search needs
 put-bytes-requires : tie.Need-put-bytes-requires
 put-bytes-requires c κs = search needs
 
-put-pair-requires : tie.Need-put-pair-requires
-put-pair-requires c κs = search needs
+put-counts-requires : tie.Need-put-counts-requires
+put-counts-requires c κs = search needs
 
 slice-aggregate-put-bytes-2 : tie.Need-slice-aggregate-put-bytes-2
 slice-aggregate-put-bytes-2 c = search needs
@@ -32,9 +32,9 @@ same-length c = search needs
 returns : tie.Need-returns
 returns c = let a = c .before .before .before .before .before .before .before .before .before .before .before .before .before .before .before .before .before .before .before .before .before .args in
     let table = entryLines (a .m) (a .front .now) (a .back .now) (length (a .front .now)) in
-    let head = values (a .count ∷ a .tally ∷ []) in
+    let head = values (a .count ∷ a .high ∷ a .low ∷ []) in
     let rest = writes-line tableNames table (writes-of (c .before .before .before .before .before .before .put-bytes2 .ensures)) (c .before .before .put-table .ensures) in
-    writes-line countNames (head ∷ tableNames ∷ table) (writes-of (c .before .before .before .before .before .before .before .before .before .before .before .before .before .before .before .put-bytes .ensures)) (writes-lines (head ∷ []) (tableNames ∷ table) (c .before .before .before .before .before .before .before .before .before .before .before .put-pair .ensures) rest)
+    writes-line countNames (head ∷ tableNames ∷ table) (writes-of (c .before .before .before .before .before .before .before .before .before .before .before .before .before .before .before .put-bytes .ensures)) (writes-lines (head ∷ []) (tableNames ∷ table) (c .before .before .before .before .before .before .before .before .before .before .before .put-counts .ensures) rest)
 
 pub put-lists-spec : {M : Type 1} → statement M
 put-lists-spec =
@@ -42,7 +42,7 @@ put-lists-spec =
     (tie.spec
     slice-aggregate-put-bytes
     put-bytes-requires
-    put-pair-requires
+    put-counts-requires
     slice-aggregate-put-bytes-2
     put-bytes-requires-2
     put-table-requires
