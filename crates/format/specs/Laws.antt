@@ -8,6 +8,7 @@ pub mod Orders
 pub mod PatternPrinted
 pub mod PatternShown
 pub mod Limits
+pub mod Refusing
 pub mod Reading
 pub mod Rearranged
 pub mod Input

@@ -1,4 +1,4 @@
 -- What follows from the definitions.
 pub mod Files
 pub mod Size
-pub mod Halves
+pub mod Nine
