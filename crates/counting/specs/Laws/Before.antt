@@ -100,7 +100,7 @@ module _ (f : Pattern) (t old l : List ℕ) {n : ℕ} (e : startedBefore f t (le
     small = omega (arith, sum-at (column f t) i, column-sum f t (passed .accepted), passed .small)
 
     written-at : (k : ℕ) → k < length t * 2 → getD (startsWritten f t l) k 0 ≡ getD (halves (column f t)) k 0
-    written-at k b = rw starts-before (List·getD-append (halves (column f t)) (drop (length (halves (column f t))) l) 0 k (omega (arith, halves-size f t l)))
+    written-at k b = rw starts-before (List·getD-append (halves (column f t)) (drop (length (halves (column f t))) l) 0 k (omega (arith, halves-size f t)))
 
     -- with the high half 0
     pub high-before : getD (startsWritten f t l) (i * 2) 0 ≡ 0

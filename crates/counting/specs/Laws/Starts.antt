@@ -39,6 +39,9 @@ module _ (f : Pattern) (t : List ℕ) where
   unfolding column
   column-length = each-length (startsAt f t) 1 (length t)
 
+  pub halves-size : length (halves (column f t)) ≡ length t * 2
+  halves-size = halves-length (column f t) ∙ ap (λ (n : ℕ). n * 2) column-length
+
   pub column-at : (i : ℕ) → i < length t → getD (column f t) i 0 ≡ startsAt f t (i + 1)
   unfolding column
   column-at i h = let e : 1 + i ≡ i + 1 = omega arith in each-at (startsAt f t) 1 (length t) i h ∙ ap (startsAt f t) e
@@ -62,17 +65,14 @@ rest-by (Words k) c l n e = drop-at c (drop (length c) l) n e ∙ ap (λ (k : �
 rest-by (Unstarted why) c l n e = refl
 
 module _ (f : Pattern) (t l : List ℕ) where
-  pub halves-size : length (halves (column f t)) ≡ length t * 2
-  halves-size = halves-length (column f t) ∙ ap (λ (n : ℕ). n * 2) (column-length f t)
-
   -- whatever it answers, the rest of the list is as it was
   pub starts-rest : drop (length t * 2) (startsWritten f t l) ≡ drop (length t * 2) l
-  starts-rest = rest-by (started f t (length l)) (halves (column f t)) l (length t * 2) halves-size
+  starts-rest = rest-by (started f t (length l)) (halves (column f t)) l (length t * 2) (halves-size f t)
 
   module _ {n : ℕ} (e : started f t (length l) ≡ Words n) where
     -- where it answers, it wrote the halves of the column
     pub starts-halves : take (length t * 2) (startsWritten f t l) ≡ halves (column f t)
-    starts-halves = rw e (take-at (halves (column f t)) (drop (length (halves (column f t))) l) (length t * 2) halves-size)
+    starts-halves = rw e (take-at (halves (column f t)) (drop (length (halves (column f t))) l) (length t * 2) (halves-size f t))
 
     -- which make up the column
     pub starts-column : wholes (take (length t * 2) (startsWritten f t l)) ≡ column f t
