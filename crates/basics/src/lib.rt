@@ -1,4 +1,6 @@
 // What several crates share: numbers, rows written over a list, bytes written over a list.
+#![tactic(auto)]
+
 mod bytes;
 mod numbers;
 mod rows;

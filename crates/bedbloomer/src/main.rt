@@ -1,4 +1,6 @@
 // Reads a pattern file, an empty line and a text file from standard input, and prints their report.
+#![tactic(auto)]
+
 ghost use Rattle.std.specs.Prelude.{◌≡◌, ◌≤◌, length, take};
 ghost use Rattle.io.specs.Counts.{IsPrefixLen};
 ghost use Rattle.report.specs.Size.{report_bound};

@@ -1,4 +1,6 @@
 // The library's calls for C and Rust: `extern "C"` functions on slices and plain structs (include/bedbloomer.h).
+#![tactic(auto)]
+
 mod answers;
 mod files;
 mod lists;

@@ -13,7 +13,7 @@ use lib.Dec.{eqb}
 use borrow.Author.Count.{below_more, below_none}
 use borrow.Author.Tests.{eqb-true}
 use Rattle.classes.specs.Trees.{Tree, negation, both, either, bit, meets}
-use Rattle.classes.specs.Steps.Sets.{numbers, contains, LetterSet, MetBy, each_number_lem, all, everything, complement, intersection, union}
+use Rattle.classes.specs.Steps.Sets.{numbers, contains, LetterSet, MetBy, each_number, all, everything, complement, intersection, union}
 use Rattle.classes.specs.declared.sets.ClassSet.{ClassSet}
 
 -- ---- an operation on bits
@@ -48,7 +48,7 @@ ors = record { step = or_step; shifted = or_shr; digit = two_digits _ (omega ari
 xors : Bitwise bit_xor differ odd
 xors = record { step = xor_step; shifted = xor_shr; digit = two_digits _ (omega arith, refl) (omega arith, refl) (omega arith, refl) (omega arith, refl) }
 
-each_number_lem : (op : ℕ → ℕ → ℕ) (v w : ClassSet) (i : ℕ) → i < 4 → get_or (numbers (each_number_lem op v w)) i 0 ≡ op (get_or (numbers v) i 0) (get_or (numbers w) i 0)
+each_number_lem : (op : ℕ → ℕ → ℕ) (v w : ClassSet) (i : ℕ) → i < 4 → get_or (numbers (each_number op v w)) i 0 ≡ op (get_or (numbers v) i 0) (get_or (numbers w) i 0)
 each_number_lem op v w zero h = refl
 each_number_lem op v w (suc zero) h = refl
 each_number_lem op v w (suc (suc zero)) h = refl
@@ -62,7 +62,7 @@ module _ {op f : ℕ → ℕ → ℕ} {g : Bool → Bool → Bool} (B : Bitwise 
       ap (λ (x : ℕ). eqb (x % 2) 1) (B.shifted a b k ∙ B.step (a / 2 ^ k) (b / 2 ^ k)) ∙ ap (λ (x : ℕ). eqb x 1) (digits_mod _ d.0) ∙ d.1
 
   -- the operation on the four numbers is one on every class byte
-  contains_of : (v w : ClassSet) (c : ℕ) → c < 256 → contains (numbers (each_number_lem op v w)) c ≡ g (contains (numbers v) c) (contains (numbers w) c)
+  contains_of : (v w : ClassSet) (c : ℕ) → c < 256 → contains (numbers (each_number op v w)) c ≡ g (contains (numbers v) c) (contains (numbers w) c)
   unfolding contains
   contains_of v w c h = ap (λ (x : ℕ). bit x (c % 64)) (each_number_lem op v w (c / 64) (omega arith)) ∙ bit_of (get_or (numbers v) (c / 64) 0) (get_or (numbers w) (c / 64) 0) (c % 64)
 

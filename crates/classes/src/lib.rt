@@ -1,4 +1,6 @@
 // A text recoded by word class. What the call answers is defined in specs/.
+#![tactic(auto)]
+
 mod expressions;
 mod reader;
 mod sets;

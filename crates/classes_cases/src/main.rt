@@ -1,5 +1,7 @@
 // Texts recoded by word class: expressions, the refusals in their order, the limits, and a text that is recoded and then counted. What is
 // printed stands in the file `stdout`.
+#![tactic(auto)]
+
 use classes::Recoded;
 use libc::STDOUT_FILENO;
 use matching::Listed;

@@ -1,4 +1,6 @@
 // Counting and listing all occurrences of a pattern in a text.
+#![tactic(auto)]
+
 mod column;
 mod fits;
 mod gaps;

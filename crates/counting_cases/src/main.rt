@@ -1,5 +1,7 @@
 // Cases of the tally, of the list of all occurrences and of the column at their limits: numbers about 2 ^ 64 and far over it, and the rows
 // of the widest span.
+#![tactic(auto)]
+
 use counting::{Started, Tallied};
 use libc::STDOUT_FILENO;
 use matching::Listed;

@@ -20,7 +20,7 @@ use Rattle.basics.specs.Written.{row_over}
 use Rattle.cursors.specs.declared.Client.{Client}
 use Rattle.cursors.specs.declared.Cursors.{Cursors}
 use Rattle.cursors.specs.declared.Served.{Served}
-use Rattle.cursors.specs.Steps.Keeping.{kept_by_lem}
+use Rattle.cursors.specs.Steps.Keeping.{kept_by}
 use Rattle.cursors.specs.Machine.{nobody, client_of, with_client, moved, first_marks, next_row, served_by}
 use Rattle.cursors.specs.Laws.Giving.{first_sixteen}
 
@@ -52,7 +52,7 @@ same_client : (s : Cursors) (client : ℕ) → with_client s client (client_of s
 same_client s client = ap (λ (cs : List Client). record { clients = cs }) (set-get_or s.clients (client - 1) nobody)
 
 pub given : (f : Pattern) (t : List ℕ) (s : Cursors) (client : ℕ) {state : Cursors} {asking left after : Client} {r : Search} → 1 ≤ f.count → asking ≡ client_of s client
-    → r ≡ searched (next_row asking f t) → after ≡ moved (take f.count r.places) asking → left ≡ kept_by_lem r.outcome asking after → state ≡ with_client s client left
+    → r ≡ searched (next_row asking f t) → after ≡ moved (take f.count r.places) asking → left ≡ kept_by r.outcome asking after → state ≡ with_client s client left
     → ◌≡◌ {A = Served} (record { cursors = state; outcome = r.outcome; places = r.places }) (served_by Accepted (next_row (client_of s client) f t) s client)
 given f t s client {state} {asking} {left} {after} {r} slots here found a l w = go (next_row (client_of s client) f t) refl
   where

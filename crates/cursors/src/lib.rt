@@ -1,9 +1,11 @@
 // Four clients that are served occurrences one after the other, each from where it stands (document 01: the editors' desk; document 02, Job 6).
+#![tactic(auto)]
+
 ghost use Rattle.std.specs.Prelude.{◌≡◌, ◌≤◌, ◌<◌, length, take};
 ghost use Rattle.pattern.specs.Tests.{input_verdict};
 ghost use Rattle.pattern.specs.declared.refusal.Verdict.TheVariants.{Accepted};
 ghost use Rattle.matching.specs.Answers.{searched};
-ghost use Rattle.cursors.specs.Steps.Keeping.{kept_by_lem};
+ghost use Rattle.cursors.specs.Steps.Keeping.{kept_by};
 ghost use Rattle.cursors.specs.Machine.{fresh, client_of, with_client, moved, restarted, client_verdict, next_verdict, next_row, next_served, rewound};
 
 use basics::put_row;
@@ -55,7 +57,7 @@ fn client_verdict(client: usize) -> Verdict
 
 // What a search leaves of a client: as it moved where an occurrence was found, else as it was.
 fn kept(outcome: Outcome, before: Client, after: Client) -> Client
-    ensures { result ≡ kept_by_lem outcome before after }
+    ensures { result ≡ kept_by outcome before after }
 {
     match outcome {
         Outcome::Found => after,

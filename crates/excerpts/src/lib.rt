@@ -1,4 +1,6 @@
 // Whether a row is an occurrence (document 01: a hit), and the part of the text that it spans. The meaning stands in matching/specs.
+#![tactic(auto)]
+
 mod conditions;
 
 ghost use Rattle.std.specs.Prelude.{◌≡◌, ◌+◌, ◌*◌};

@@ -1,4 +1,6 @@
 // The text format (document 01: sheets): reading patterns and texts from bytes.
+#![tactic(auto)]
+
 mod bytes;
 mod fields;
 mod input;

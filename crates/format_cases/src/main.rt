@@ -1,5 +1,7 @@
 // Reads files with the compiled library and prints, for each, what it answers: how many slots or words, or `refused` with number and place.
 // Then it writes patterns that were read, and prints what was written.
+#![tactic(auto)]
+
 use basics::smaller;
 use format::TextRead;
 use libc::STDOUT_FILENO;

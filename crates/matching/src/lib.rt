@@ -1,4 +1,6 @@
 // Finding occurrences of patterns in texts: the searches, the front and back lists, the count. The meanings stand in specs/.
+#![tactic(auto)]
+
 mod bounds;
 mod laid;
 mod lists;

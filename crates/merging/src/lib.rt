@@ -1,4 +1,6 @@
 // Two patterns into one (document 02, Job 5): what both take and allow.
+#![tactic(auto)]
+
 mod checks;
 mod slots;
 mod words;

@@ -1,4 +1,6 @@
 // Runs the nine texts of document 01 through the library and compares every answer with the tables.
+#![tactic(auto)]
+
 mod cases;
 mod clients;
 mod lists;

@@ -1,4 +1,6 @@
 // Patterns with gap and length constraints, the limits they keep to, and why one is refused.
+#![tactic(auto)]
+
 ghost use Rattle.std.specs.Prelude.{◌≡◌};
 ghost use Rattle.pattern.specs.Patterns.{empty_pattern, with_span};
 ghost use Rattle.pattern.specs.Tests.{pattern_verdict, input_verdict};
@@ -51,7 +53,8 @@ impl Pattern {
     // The pattern with no slots and the widest span limits; all its entries are 0.
     pub fn new() -> Self
         ensures value { result ≡ empty_pattern }
-        ensures* fact { do ⌜ (result.least ≡ (← (⟦Pattern::LEAST⟧).entry)) × (result.most ≡ (← (⟦Pattern::MOST⟧).entry)) ⌝ }
+        ensures least { result.least ≡ Self.LEAST }
+        ensures most { result.most ≡ Self.MOST }
     {
         let unused = Slot {
             words: [0u16; 8],

@@ -1,4 +1,6 @@
 // Writing a pattern as a file, in one way.
+#![tactic(auto)]
+
 mod sizes;
 mod writing;
 

@@ -6,6 +6,7 @@ ghost use Rattle.format.specs.Shown.{digits, closed, joined, mark_text, slot_tex
 ghost use Rattle.printing.specs.Printed.{line_of, lines_of, pattern_text, most_printed, pattern_printed, pattern_written};
 ghost use Rattle.printing.specs.Steps.Printing.{word_text};
 
+use crate::PATTERN_FILE;
 use crate::sizes::pattern_size;
 use basics::{put_byte, put_bytes, put_number, put_value, smaller};
 use pattern::{Pattern, Refusal, Slot, Verdict};
@@ -98,7 +99,7 @@ pub fn write_pattern(pattern: Pattern, out: &mut [u8]) -> PatternWritten
     ensures value { result ≡ pattern_printed pattern (length out.old) }
     ensures out_after { out.new ≡ pattern_written pattern out.old }
     ensures typed { Typed pattern }
-    ensures* most_printed_value { do ⌜ most_printed ≡ (← (⟦crate::PATTERN_FILE⟧).entry) ⌝ }
+    ensures most_printed_value { most_printed ≡ PATTERN_FILE }
 {
     let verdict = pattern.check();
     if let Verdict::Refused(why) = verdict {

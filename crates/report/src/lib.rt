@@ -1,4 +1,6 @@
 // What the program prints for its input, as bytes.
+#![tactic(auto)]
+
 mod files;
 mod lines;
 
@@ -72,7 +74,7 @@ fn files_report(pattern: &[u8], text: &[u8], out: &mut [u8]) -> usize
 // for all of it.
 pub fn report(input: &[u8], out: &mut [u8]) -> usize
     ensures value { (result ≡ min (length (reported input.now)) (length out.old)) × (out.new ≡ overlaid (reported input.now) out.old) }
-    ensures* report_bound_value { do ⌜ report_bound ≡ (← (⟦crate::REPORT_BOUND⟧).entry) ⌝ }
+    ensures report_bound_value { report_bound ≡ REPORT_BOUND }
 {
     let n = input.len();
     if format::FILE < n {

@@ -1,5 +1,7 @@
 // Runs the worked texts through the library: of each the count, the tally, the front list, the back list, all occurrences, and whether one
 // row is an occurrence; of the last text also whether the four rows are that each fail one condition alone.
+#![tactic(auto)]
+
 mod cases;
 mod show;
 mod tables;

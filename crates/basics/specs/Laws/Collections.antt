@@ -25,6 +25,7 @@ module _ {A : Type 0} where
 
   -- what holds of each member holds of a member
   pub every-mem : {P : A → Type 0} {x : A} {xs : List A} → Every P xs → Memᴰ x xs → P x
+  every-mem {P = P} none m = elim m [ ]
   every-mem {P} (more h e) (Memᴰ.head q) = subst P (sym q) h
   every-mem (more h e) (Memᴰ.tail m) = every-mem e m
 

@@ -21,8 +21,8 @@ pub record MetBy (t : Tree) (ns : List ℕ) : Type 0 where
   pub entry : (c : ℕ) → c < 256 → meets t c ≡ contains ns c
 
 -- an operation on each of the four numbers
-abbrev pub each_number_lem : (ℕ → ℕ → ℕ) → ClassSet → ClassSet → ClassSet
-each_number_lem op v w = record {
+abbrev pub each_number : (ℕ → ℕ → ℕ) → ClassSet → ClassSet → ClassSet
+each_number op v w = record {
   first = op v.first w.first;
   second = op v.second w.second;
   third = op v.third w.third;
@@ -39,12 +39,12 @@ everything = record { first = all; second = all; third = all; fourth = all }
 
 -- the class bytes that are not in the set
 abbrev pub complement : ClassSet → ClassSet
-complement v = each_number_lem bit_xor v everything
+complement v = each_number bit_xor v everything
 
 -- the class bytes that are in both
 abbrev pub intersection : ClassSet → ClassSet → ClassSet
-intersection = each_number_lem bit_and
+intersection = each_number bit_and
 
 -- the class bytes that are in either
 abbrev pub union : ClassSet → ClassSet → ClassSet
-union = each_number_lem bit_or
+union = each_number bit_or

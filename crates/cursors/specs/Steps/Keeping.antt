@@ -4,7 +4,7 @@ use Rattle.matching.specs.declared.searches.Outcome.TheVariants.{Found, Absent, 
 use Rattle.cursors.specs.declared.Client.{Client}
 
 -- the second where it found an occurrence, else the first
-abbrev pub kept_by_lem : Outcome → Client → Client → Client
-kept_by_lem Found before after = after
-kept_by_lem Absent before after = before
-kept_by_lem (NotSearched why) before after = before
+abbrev pub kept_by : Outcome → Client → Client → Client
+kept_by Found before after = after
+kept_by Absent before after = before
+kept_by (NotSearched why) before after = before

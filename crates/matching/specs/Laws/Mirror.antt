@@ -143,7 +143,7 @@ module _ {f : Pattern} {v : View} {g : Pattern} {u : View} (F : Facing f v g u) 
   pub greedy_back : {marks far : List ℕ} → Opposite f.count v.places marks far → {R : List (List ℕ)}
       → Greedy (OccursIn g u) (Before g.count) (NotAfter g.count) far R → Greedy (OccursIn f v) (After f.count) (NotBefore f.count) marks (map (flip v.places) R)
   greedy_back M (done no_more) = done (none_back M no_more)
-  greedy_back M (next N G) = next (nearest_back M N) (greedy_back (row-opposite N.hit) G)
+  greedy_back {marks = marks} M (next {r = r} N G) = next (nearest_back M N) (greedy_back {marks = flip v.places r} (row-opposite N.hit) G)
 
   -- the front list there is the back list here, from its last row on
   pub front_back_list : v.places ≤ 20000 → {R : List (List ℕ)} → FrontIn g u R → BackIn f v (map (flip v.places) R)

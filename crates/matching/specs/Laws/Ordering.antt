@@ -7,11 +7,15 @@ use Rattle.basics.specs.Collections.{Every, Pairwise, none, more}
 use Rattle.basics.specs.Laws.Collections.{every-mem}
 use Rattle.matching.specs.Occurrences.{Lex, here, after}
 
+-- no row stands before another and that one before it; the rows of the second are named apart
+lex_apart : {r s s' r' : List ℕ} → Lex r s → Lex s' r' → s ≡ s' → r ≡ r' → ⊥
+lex_apart (here {p = p} {q = q} l) (here {p = p'} {q = q'} m) e f = let a : q ≡ p' = cc in let b : p ≡ q' = cc in omega arith
+lex_apart (here {p = p} {q = q} l) (after {p = p'} m) e f = let a : q ≡ p' = cc in let b : p ≡ p' = cc in omega arith
+lex_apart (after {p = p} l) (here {p = p'} {q = q'} m) e f = let a : p ≡ p' = cc in let b : p ≡ q' = cc in omega arith
+lex_apart (after {r = r} {s = s} l) (after {r = s'} {s = r'} m) e f = let a : s ≡ s' = cc in let b : r ≡ r' = cc in lex_apart l m a b
+
 lex_asym : {r s : List ℕ} → Lex r s → Lex s r → ⊥
-lex_asym (here l) (here m) = omega arith
-lex_asym (here l) (after m) = omega arith
-lex_asym (after l) (here m) = omega arith
-lex_asym (after l) (after m) = lex_asym l m
+lex_asym l m = lex_apart l m refl refl
 
 lex_irrefl : {r s : List ℕ} → Lex r s → s ≡ r → ⊥
 lex_irrefl l e = let k = rw e at l in lex_asym k k
