@@ -12,7 +12,7 @@ use printing::PatternWritten;
 
 // An answer, or a refusal's number with its place; then the value is 0.
 #[repr(C)]
-#[derive(Drop)]
+#[derive(Clone, Copy)]
 pub struct Answer {
     pub number: u32,
     pub place: usize,
@@ -21,7 +21,7 @@ pub struct Answer {
 
 // A number of occurrences in two halves, high times 2 ^ 64 plus low, or a refusal's number with its place; then both halves are 0.
 #[repr(C)]
-#[derive(Drop)]
+#[derive(Clone, Copy)]
 pub struct Total {
     pub number: u32,
     pub place: usize,
@@ -31,7 +31,7 @@ pub struct Total {
 
 // A pattern, beside a refusal's number with its place.
 #[repr(C)]
-#[derive(Drop)]
+#[derive(Clone, Copy)]
 pub struct Made {
     pub number: u32,
     pub place: usize,
@@ -40,7 +40,7 @@ pub struct Made {
 
 // How many words were read and the pattern, or a refusal's number with its place, 0 words and a new pattern.
 #[repr(C)]
-#[derive(Drop)]
+#[derive(Clone, Copy)]
 pub struct ReadBoth {
     pub number: u32,
     pub place: usize,
@@ -50,7 +50,7 @@ pub struct ReadBoth {
 
 // Where a line's bytes end and where the next line begins; the same place where the line is not closed.
 #[repr(C)]
-#[derive(Drop)]
+#[derive(Clone, Copy)]
 pub struct LineEnds {
     pub end: usize,
     pub next: usize,
@@ -58,7 +58,7 @@ pub struct LineEnds {
 
 // What a search found: 1 and its places, or 0 and places of 0.
 #[repr(C)]
-#[derive(Drop)]
+#[derive(Clone, Copy)]
 pub struct Found {
     pub number: u32,
     pub place: usize,
@@ -68,7 +68,7 @@ pub struct Found {
 
 // How long an excerpt is, and one of its words.
 #[repr(C)]
-#[derive(Drop)]
+#[derive(Clone, Copy)]
 pub struct Excerpted {
     pub length: usize,
     pub word: u16,
@@ -76,7 +76,7 @@ pub struct Excerpted {
 
 // The state that a client's call leaves, beside what it found.
 #[repr(C)]
-#[derive(Drop)]
+#[derive(Clone, Copy)]
 pub struct ServedTo {
     pub cursors: Cursors,
     pub number: u32,

@@ -5,7 +5,7 @@ use crate::reader::{Part, alternative};
 use crate::sets::ClassSet;
 
 // What bytes are as an expression: none, one whose brackets are nested too deep, or one that these class bytes meet.
-#[derive(Drop)]
+#[derive(Clone, Copy)]
 pub(crate) enum Expression {
     Wrong,
     Deep,

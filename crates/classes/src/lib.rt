@@ -13,7 +13,7 @@ use crate::words::put_words;
 use pattern::Refusal;
 
 // How many words were written, or why none was.
-#[derive(Drop)]
+#[derive(Clone, Copy)]
 pub enum Recoded {
     Words(usize),
     Refused(Refusal),

@@ -4,7 +4,7 @@ ghost use Rattle.classes.specs.Steps.Parts.{denied_part, closed_part, operand, a
 use crate::sets::{ClassSet, complement, intersection, letter_set, union};
 
 // What a part of an expression is read as: where it ends, the class bytes that meet it, and whether its brackets have room; or that there is none.
-#[derive(Drop)]
+#[derive(Clone, Copy)]
 pub(crate) enum Part {
     At(usize, ClassSet, bool),
     Bad,

@@ -4,7 +4,7 @@ ghost use Rattle.classes.specs.Steps.Sets.{LetterSet, complement, intersection, 
 use basics::widen_byte;
 
 // A set of class bytes, a bit for each of them, in four numbers of 64 bits: the byte c stands at bit c % 64 of number c / 64.
-#[derive(Drop)]
+#[derive(Clone, Copy)]
 pub(crate) struct ClassSet {
     pub first: u64,
     pub second: u64,

@@ -58,7 +58,7 @@ fn unbound(least: usize, most: usize, near: usize, far: usize, n: usize) -> bool
 }
 
 // A pattern as the runs over n places are handed it.
-#[derive(Drop)]
+#[derive(Clone, Copy)]
 pub(crate) struct Outline {
     // the gap before each slot, at its least and at its widest
     pub low: [u16; 16],

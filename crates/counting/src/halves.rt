@@ -3,7 +3,7 @@ ghost use Rattle.basics.specs.Choice.{pick};
 ghost use Rattle.counting.specs.Steps.Numbers.{value};
 
 // A number below 2 ^ 128, in two halves.
-#[derive(Drop)]
+#[derive(Clone, Copy)]
 pub(crate) struct Wide {
     pub hi: u64,
     pub lo: u64,

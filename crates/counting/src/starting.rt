@@ -9,7 +9,7 @@ use crate::column::fill_text;
 use pattern::{Pattern, Refusal, Verdict};
 
 // What `starts` answers: how many words have a number now, or why none has.
-#[derive(Drop)]
+#[derive(Clone, Copy)]
 pub enum Started {
     Words(usize),
     Refused(Refusal),

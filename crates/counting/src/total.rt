@@ -6,7 +6,7 @@ use crate::column::{fill_text, sum};
 use pattern::{Pattern, Refusal, Verdict};
 
 // What the tally answers: how many occurrences there are, high times 2 ^ 64 plus low, or why it counted none.
-#[derive(Drop)]
+#[derive(Clone, Copy)]
 pub enum Tallied {
     Total { high: u64, low: u64 },
     Refused(Refusal),

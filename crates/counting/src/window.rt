@@ -7,7 +7,7 @@ use crate::halves::{Wide, add, sub};
 use basics::{smaller, widen};
 
 // Consecutive places of a text, and which rows are looked for there.
-#[derive(Drop)]
+#[derive(Clone, Copy)]
 pub(crate) struct Window {
     // how many places stand before it
     pub first: usize,

@@ -14,7 +14,7 @@ use pattern::{Pattern, Refusal, Verdict};
 
 // One client: its marks, one for each slot that a pattern may have, and how many occurrences it was served (document 01: handed out).
 #[repr(C)]
-#[derive(Drop)]
+#[derive(Clone, Copy)]
 pub struct Client {
     pub marks: [u16; 16],
     pub served: usize,
@@ -22,13 +22,13 @@ pub struct Client {
 
 // Clients 1 to 4.
 #[repr(C)]
-#[derive(Drop)]
+#[derive(Clone, Copy)]
 pub struct Cursors {
     pub clients: [Client; 4],
 }
 
 // What a call of `next` gives: the state it leaves, what the search came to and the occurrence it found, as a search gives it.
-#[derive(Drop)]
+#[derive(Clone, Copy)]
 pub struct Served {
     pub cursors: Cursors,
     pub outcome: Outcome,
@@ -36,7 +36,7 @@ pub struct Served {
 }
 
 // What a call of `rewind` gives: the state it leaves, and whether it was refused.
-#[derive(Drop)]
+#[derive(Clone, Copy)]
 pub struct Rewound {
     pub cursors: Cursors,
     pub verdict: Verdict,

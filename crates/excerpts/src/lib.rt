@@ -12,7 +12,7 @@ use matching::row_verdict;
 use pattern::{Pattern, Refusal, Verdict};
 
 // Whether a row is an occurrence, or why it is not tested.
-#[derive(Drop)]
+#[derive(Clone, Copy)]
 pub enum Tested {
     Yes,
     No,

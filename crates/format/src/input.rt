@@ -6,7 +6,7 @@ use crate::texts::{TextRead, read_text};
 use pattern::{Pattern, Refusal, Verdict};
 
 // What reading a pattern and a text in one call gives: how many words were written and the pattern, or why none, and a new pattern.
-#[derive(Drop)]
+#[derive(Clone, Copy)]
 pub struct InputRead {
     pub text: TextRead,
     pub pattern: Pattern,

@@ -4,7 +4,7 @@ ghost use Rattle.format.specs.Names.{span_names, slot_names, columns_of};
 use crate::fields::{column, count};
 
 // Where the fields of a slot's line stand, from 0.
-#[derive(Drop)]
+#[derive(Clone, Copy)]
 pub(crate) struct Columns {
     pub low: usize,
     pub high: usize,

@@ -13,7 +13,7 @@ use crate::values::{slot_of, slot_values, span_values};
 use pattern::{Pattern, Refusal, Slot, Verdict};
 
 // What reading a pattern gives: the pattern that the file shows or, where the file is refused, a new pattern.
-#[derive(Drop)]
+#[derive(Clone, Copy)]
 pub struct PatternRead {
     pub verdict: Verdict,
     pub pattern: Pattern,

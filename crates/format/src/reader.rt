@@ -4,14 +4,14 @@ ghost use Rattle.format.specs.Lines.{line_at};
 use crate::bytes::find;
 
 // A file's bytes and how far they have been read.
-#[derive(Drop)]
+#[derive(Clone, Copy)]
 pub struct Reader<'a> {
     pub bytes: &'a [u8],
     pub at: usize,
 }
 
 // A line: where its bytes end, and where the next line begins. The two are the same place where the line is not closed.
-#[derive(Drop)]
+#[derive(Clone, Copy)]
 pub struct Line {
     pub end: usize,
     pub next: usize,

@@ -12,7 +12,7 @@ use crate::reader::line_at;
 use pattern::{Pattern, Refusal};
 
 // What reading a text answers: how many words were written, or why none.
-#[derive(Drop)]
+#[derive(Clone, Copy)]
 pub enum TextRead {
     Words(usize),
     Refused(Refusal),

@@ -1,7 +1,7 @@
 use pattern::Refusal;
 
 // What a list call answers: how many rows it wrote, or why it wrote none.
-#[derive(Drop)]
+#[derive(Clone, Copy)]
 pub enum Listed {
     Rows(usize),
     Refused(Refusal),

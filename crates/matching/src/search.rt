@@ -11,7 +11,7 @@ use basics::widen;
 use pattern::Pattern;
 
 // Whether there is an occurrence, and then its places, 0 past the pattern's slots.
-#[derive(Drop)]
+#[derive(Clone, Copy)]
 pub struct Answer {
     pub places: [u16; 16],
     pub found: bool,

@@ -8,7 +8,7 @@ use crate::search::{Answer, search};
 use pattern::{Pattern, Refusal, Verdict};
 
 // What a search comes to.
-#[derive(Drop)]
+#[derive(Clone, Copy)]
 pub enum Outcome {
     Found,
     Absent,
@@ -16,7 +16,7 @@ pub enum Outcome {
 }
 
 // A search's outcome with the occurrence it found: the places past the slots are 0, and all of them where there is none.
-#[derive(Drop)]
+#[derive(Clone, Copy)]
 pub struct Search {
     pub outcome: Outcome,
     pub places: [u16; 16],

@@ -14,7 +14,7 @@ use pattern::{Pattern, Refusal, Verdict};
 use slots::{larger_bound, merged_slots, smaller_bound};
 
 // What merging gives: the merged pattern or, where it is refused, a new pattern.
-#[derive(Drop)]
+#[derive(Clone, Copy)]
 pub struct Merged {
     pub verdict: Verdict,
     pub pattern: Pattern,

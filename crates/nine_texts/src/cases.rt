@@ -6,14 +6,14 @@ use pattern::Pattern;
 use std::num::wrapping_add_usize;
 
 // A list of up to eight rows, in the tables' layout.
-#[derive(Drop)]
+#[derive(Clone, Copy)]
 pub struct Rows {
     pub places: [u16; 32],
     pub count: usize,
 }
 
 // A text with its pattern, its three lists, and a row that is no occurrence.
-#[derive(Drop)]
+#[derive(Clone, Copy)]
 pub struct Case {
     pub words: [u16; 16],
     pub length: usize,

@@ -9,7 +9,7 @@ use cursors::{Client, Cursors};
 use pattern::{Pattern, Verdict};
 
 // What a call leaves and answers: the number of the outcome or refusal, and the places.
-#[derive(Drop)]
+#[derive(Clone, Copy)]
 struct Answer {
     cursors: Cursors,
     number: u64,

@@ -8,7 +8,7 @@ use matching::Listed;
 use pattern::Pattern;
 
 // Which of a text's lists.
-#[derive(Drop)]
+#[derive(Clone, Copy)]
 enum List {
     Front,
     Back,
@@ -16,14 +16,14 @@ enum List {
 }
 
 // What a list of nines should hold in the end, and how many of its entries are written.
-#[derive(Drop)]
+#[derive(Clone, Copy)]
 struct Wanted {
     list: [u16; 40],
     size: usize,
 }
 
 // What a list call answers, as the number of rows or of the refusal and its place, and the list then, of which it was lent `room` entries.
-#[derive(Drop)]
+#[derive(Clone, Copy)]
 struct Called {
     number: u64,
     place: u64,

@@ -5,7 +5,7 @@ use pattern::Refusal;
 use std::num::{wrapping_add_u64, wrapping_sub_u64};
 
 // How many checks were done, and how many of them failed.
-#[derive(Drop)]
+#[derive(Clone, Copy)]
 pub struct Score {
     pub done: u64,
     pub failed: u64,

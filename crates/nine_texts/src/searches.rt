@@ -6,7 +6,7 @@ use pattern::Pattern;
 use std::num::wrapping_add_u64;
 
 // Where a search starts, and what it should find: 1 and a row, or 0 and zeros.
-#[derive(Drop)]
+#[derive(Clone, Copy)]
 struct Step {
     marks: [u16; 4],
     number: u64,

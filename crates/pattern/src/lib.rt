@@ -16,7 +16,7 @@ pub use slot::Slot;
 
 // A pattern with gap and length constraints (document 01: frame; 004, Definition 2).
 #[repr(C)]
-#[derive(Drop)]
+#[derive(Clone, Copy)]
 pub struct Pattern {
     pub slots: [Slot; 16],
     pub count: usize,
@@ -25,7 +25,7 @@ pub struct Pattern {
 }
 
 // What adding a slot gives: the pattern, with that slot or, where the slot is refused, as it was.
-#[derive(Drop)]
+#[derive(Clone, Copy)]
 pub struct Extended {
     pub verdict: Verdict,
     pub pattern: Pattern,

@@ -2,7 +2,7 @@ ghost use Rattle.std.specs.Prelude.{◌≡◌};
 ghost use Rattle.pattern.specs.Refusals.{number_of, place_of};
 
 // Why a call is refused: a case for each number of document 01's table, in its order, then document 02's. What a case carries is its place.
-#[derive(Drop)]
+#[derive(Clone, Copy)]
 pub enum Refusal {
     SlotCount,
     WordCount(usize),
@@ -29,7 +29,7 @@ pub enum Refusal {
 }
 
 // Whether what was handed in is accepted, and if not, why.
-#[derive(Drop)]
+#[derive(Clone, Copy)]
 pub enum Verdict {
     Accepted,
     Refused(Refusal),

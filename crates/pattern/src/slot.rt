@@ -8,7 +8,7 @@ use basics::{smaller, widen};
 
 // One element of a pattern (document 01: slot): the words it lists, the gap before it, and whether it takes these or any but these.
 #[repr(C)]
-#[derive(Drop)]
+#[derive(Clone, Copy)]
 pub struct Slot {
     pub words: [u16; 8],
     pub count: usize,

@@ -12,7 +12,7 @@ use basics::{put_byte, put_bytes, put_number, put_value, smaller};
 use pattern::{Pattern, Refusal, Slot, Verdict};
 
 // What writing a pattern gives: how many bytes were written, or why none.
-#[derive(Drop)]
+#[derive(Clone, Copy)]
 pub enum PatternWritten {
     Bytes(usize),
     Refused(Refusal),

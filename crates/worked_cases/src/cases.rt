@@ -6,7 +6,7 @@ use basics::widen;
 use pattern::Pattern;
 
 // A text with its pattern and the row to be tested.
-#[derive(Drop)]
+#[derive(Clone, Copy)]
 pub struct Case {
     pub words: [u16; 16],
     pub length: usize,
