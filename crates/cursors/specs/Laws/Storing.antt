@@ -45,16 +45,16 @@ unfolding next_served rewound
 step_changes (next named f t) s = left_changes (next_verdict f (length t) named (client_of s named).served) (next_row (client_of s named) f t) s named (λ e. (admitted e).known)
 step_changes (rewind named) s = rewound_changes (client_verdict named) s named (λ e. known_client e)
 
-changed_four : {s u : Cursors} {named : ℕ} → Changed s named u → Four s → Four u
+changed_four : {s : Cursors} {named : ℕ} {u : Cursors} → Changed s named u → Four s → Four u
 changed_four kept four = four
 changed_four {s} {named = named} (stored n after) four = length-set s.clients (named - 1) after ∙ four
 
-changed_other : {s u : Cursors} {named client : ℕ} → Changed s named u → KnownClient client → (named ≡ client → ⊥) → client_of u client ≡ client_of s client
+changed_other : {s : Cursors} {named client : ℕ} {u : Cursors} → Changed s named u → KnownClient client → (named ≡ client → ⊥) → client_of u client ≡ client_of s client
 changed_other kept k h = refl
 changed_other {s} {named = named} {client = client} (stored n after) k h =
     get_or-set_other s.clients (named - 1) (client - 1) after nobody (λ e. h (omega (arith, n.first, k.first)))
 
-changed_stranger : {s u : Cursors} {named : ℕ} → Changed s named u → (KnownClient named → ⊥) → u ≡ s
+changed_stranger : {s : Cursors} {named : ℕ} {u : Cursors} → Changed s named u → (KnownClient named → ⊥) → u ≡ s
 changed_stranger kept h = refl
 changed_stranger (stored n after) h = absurd (h n)
 
