@@ -1,21 +1,23 @@
 -- The list as the rows are written into it, one after the other. Assumes nothing.
-use Prim.Native.Nat.{ℕ, ◌+◌, ◌*◌, ◌≤◌, ◌<◌}
+use Prim.Native.Nat.{ℕ, ◌+◌, ◌-◌, ◌*◌, ◌≤◌, ◌<◌}
 use native.Mathlib.Omega.{arith}
 use native.Mathlib.Nat.{add-mul, one-mul, zero-mul, mul-le-mul_right, mul-le-mul}
 use mathlib.Core.List.{List, [], ◌∷◌, ◌++◌, append_assoc, append-nil}
 use mathlib.Core.Bool.{true, false}
 use mathlib.Core.Path.{◌≡◌, refl, sym, ap, ◌∙◌}
+use borrow.Rule.Slice.PartMut.{put_mid}
 use lib.ListN.{length, take, drop, replicate, length-append, length-drop, take-append-drop}
-use lib.Seq.{paste, length-take-le, take-append_seam, drop-append-add, drop-append_seam, drop-drop}
+use lib.Seq.{paste, length-paste, length-take-le, take-append_seam, drop-append-add, drop-append_seam, drop-drop}
 use Rattle.pattern.specs.declared.Pattern.{Pattern}
 use Rattle.matching.specs.declared.search.Answer.{Answer}
 use Rattle.basics.specs.Collections.{Every}
 use Rattle.matching.specs.Occurrence.{View}
 use Rattle.matching.specs.Lists.{leftmost_in}
-use Rattle.basics.specs.Written.{flat, written}
+use Rattle.basics.specs.Written.{flat, written, row_over}
 use Rattle.matching.specs.Steps.Settling.{Ready, Answered}
 use Rattle.basics.specs.Laws.Collections.{every_map}
 use Rattle.basics.specs.Laws.Written.{length-flat}
+use Rattle.basics.specs.Laws.Lending.{row-pasted}
 use Rattle.matching.specs.Laws.Greedy.{run-hits}
 use Rattle.matching.proofs.Finding.{Counted, counted_begin, counted_more, counted_all, counted_within}
 
@@ -88,7 +90,7 @@ module _ {g : Pattern} {u : View} {l₀ l marks : List ℕ} {k : ℕ} (W : Writi
       let h = counted_within (counted_more W.counted ok A e) ok in
       omega (arith, W.size, mul_within k (length (leftmost_in g u)) g.count (omega arith) room)
 
-  pub writing_more : a.found ≡ true → length (leftmost_in g u) * g.count ≤ length l₀ → {l' : List ℕ}
+  writing_more : a.found ≡ true → length (leftmost_in g u) * g.count ≤ length l₀ → {l' : List ℕ}
       → l' ≡ paste l (k * g.count) a.places g.count → length l' ≡ length l → Writing g u l₀ l' a.places (k + 1)
   unfolding counted_more
   writing_more e room {l'} E L =
@@ -100,6 +102,15 @@ module _ {g : Pattern} {u : View} {l₀ l marks : List ℕ} {k : ℕ} (W : Writi
             ∙ written_more g.count C.rows a.places l₀ l W.content (omega (arith, room_next e room, W.size, q)) (every_map (λ r o. o.size) (run-hits C.run));
         size = L ∙ W.size;
       }
+
+  -- the part of the list from there on was lent for the row
+  pub writing_put : a.found ≡ true → length (leftmost_in g u) * g.count ≤ length l₀ → {ys : List ℕ}
+      → ys ≡ row_over g.count a.places (take (length l - k * g.count) (drop (k * g.count) l)) → Writing g u l₀ (put_mid (k * g.count) (length l - k * g.count) l ys) a.places (k + 1)
+  writing_put e room {ys} put =
+      let fits = room_next e room in
+      let whole : g.count ≤ length a.places = omega (arith, A.size e, ok.few) in
+      let pasted = row-pasted l (k * g.count) (omega (arith, fits)) a.places ys g.count whole fits put in
+      writing_more e room pasted (ap length pasted ∙ length-paste l (k * g.count) a.places g.count fits whole)
 
   pub writing_all : a.found ≡ false → l ≡ written g.count (leftmost_in g u) l₀
   writing_all e = W.content ∙ ap (λ (F : List (List ℕ)). written g.count F l₀) (counted_all W.counted ok A e)

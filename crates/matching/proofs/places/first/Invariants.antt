@@ -1,0 +1,19 @@
+-- `first` meets its contract. The invariant: no place from `from` on that was passed has a word that the slot takes.
+use mathlib.Core.Path.{◌≡◌, ◌∙◌}
+use mathlib.Core.Bool.{true}
+use native.Mathlib.Omega.{arith}
+use Prim.Native.Nat.{ℕ, ◌+◌, ◌≤◌, ◌<◌, ◌-◌}
+use Rattle.matching.proofs.Reading.{first_more, told}
+use Rattle.matching.specs.Steps.Turning.{seen}
+use Rattle.matching.specs.Occurrence.{takes_at}
+use Rattle.pattern.specs.declared.slot.Slot.{Slot}
+use Rattle.pattern.specs.Patterns.{takes}
+use Rattle.pattern.specs.Numbers.{Numbers}
+use Rattle.pattern.specs.Laws.Slots.{numbers_taken}
+use Rattle.matching.proofs.places.first.Given as goal
+
+abbrev pub invariant-loop-p : goal.invariant-loop-p
+invariant-loop-p l = (l.from ≤ l.p) × ((s : Slot) → Numbers s l.slot → (k : ℕ) → k < l.p → l.from ≤ k → takes_at s (seen l.mirrored l.text) k ≡ true → ⊥)
+
+abbrev pub decreases-loop-p : goal.decreases-loop-p
+decreases-loop-p l = l.n + 1 - l.p

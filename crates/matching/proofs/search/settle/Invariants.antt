@@ -1,0 +1,19 @@
+-- `settle` meets its contract. The invariant: the slots of the last `calm` visits ask no more; a raise leaves less to raise.
+use mathlib.Core.Path.{◌≡◌, refl, sym, ◌∙◌}
+use lib.ListN.{length}
+use native.Mathlib.Omega.{arith}
+use Prim.Native.Nat.{◌+◌, ◌*◌, ◌-◌, ◌≤◌, ◌<◌}
+use Rattle.pattern.specs.declared.Pattern.{Pattern}
+use Rattle.matching.proofs.Raising.{none, less, placed}
+use Rattle.matching.proofs.Settling.{Calm, calm_begin, calm_same, calm_raise, all_calm, settled, unsettled}
+use Rattle.matching.specs.Occurrence.{View}
+use Rattle.matching.specs.Steps.Turning.{viewed}
+use Rattle.matching.specs.Steps.Settling.{loose, slack}
+use Rattle.matching.specs.Steps.Laid.{Plan, Raisable, planned}
+use Rattle.matching.proofs.search.settle.Given as goal
+
+abbrev pub invariant-loop-calm : goal.invariant-loop-calm
+invariant-loop-calm l = (w : Plan (length l.text) l.m l.least l.most l.laid) → Calm (planned w) (loose (viewed l.mirrored (planned w) l.text)) l.initial.p l.p l.calm l.j
+
+abbrev pub decreases-loop-calm : goal.decreases-loop-calm
+decreases-loop-calm l = 17 * slack l.p + (l.m - l.calm)
