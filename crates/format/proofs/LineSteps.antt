@@ -105,6 +105,14 @@ lined s at l e h = go (ltb (line_end s at) (length s)) refl (ap (λ (k : Line). 
         let m : l.end ≤ length s = omega (arith, cut_within (drop at s) 10, length-drop at s) in
         record { is = p; within = m; last = λ z. omega arith; after = λ z. absurd (z (p ∙ sym n)) }
 
+-- by the test whether it is closed
+module _ {s : List ℕ} {at : ℕ} {l : Line} (is : l ≡ line_at s at) (h : at ≤ length s) where
+  pub found_open : l.end ≡ l.next → Open s at l
+  found_open e = open_line (lined s at l is h) e
+
+  pub found_closed : (l.end ≡ l.next → ⊥) → Closed s at l
+  found_closed n = closed-line (lined s at l is h) n
+
 -- ---- the lines from a place on
 
 module _ {s : List ℕ} {at : ℕ} {l : Line} (c : Closed s at l) where

@@ -1,7 +1,12 @@
-ghost use Rattle.std.specs.Prelude.{◌≡◌};
+ghost use Rattle.std.specs.Prelude.{◌≡◌, ◌<◌};
 ghost use Rattle.format.specs.Bytes.{decimal, value};
 
-use basics::widen_byte;
+// A byte as a number.
+fn wide(x: u8) -> usize
+    ensures { (result ≡ x) × (result < 256) }
+{
+    x as usize
+}
 
 // The number that the bytes show in base ten, or 65536 where they show none.
 pub(crate) fn decimal(s: &[u8]) -> usize
@@ -20,7 +25,7 @@ pub(crate) fn decimal(s: &[u8]) -> usize
     let mut v: usize = 0;
     let mut i = 0;
     while i < n {
-        let b = widen_byte(s[i]);
+        let b = wide(s[i]);
         if b < 48 {
             return 65536;
         }
