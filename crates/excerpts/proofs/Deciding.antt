@@ -1,17 +1,11 @@
 -- Each condition of a row as its step finds it: it holds where it holds at every place, and fails where it fails at one. Assumes nothing.
-use Prim.Native.Nat.{ℕ, ◌+◌, ◌-◌, ◌<◌}
-use mathlib.Core.Bool.{Bool, true, false, true≢false, ◌&&◌}
-use mathlib.Core.List.{List}
-use mathlib.Core.Path.{◌≡◌, sym, ◌∙◌}
-use lib.ListN.{length}
-use borrow.Author.Count.{below_more}
-use borrow.Author.Tests.{eq-eqb, ne_eqb}
+use Rattle.std.proofs.Common.{◌≡◌, ℕ, ◌+◌, ◌-◌, ◌<◌, ◌≤◌, Bool, true, false, ◌&&◌, List, length, sym, ◌∙◌, true≢false, arith, below_more, eq-eqb, ne_eqb}
 use Rattle.basics.specs.Laws.Choice.{is_false}
 use Rattle.pattern.specs.declared.Pattern.{Pattern}
 use Rattle.pattern.specs.Patterns.{slot_at}
 use Rattle.matching.specs.Occurrence.{plain, takes_at, ends_at, at, word_at, Unbroken, SentenceIn}
 use Rattle.matching.specs.Occurrences.{within, each, place_fits_in, word_in, word, gap_fits, gap, span, sentence}
-use Rattle.matching.specs.Laws.Tests.{each_iff, sentence_iff}
+use Rattle.matching.specs.Laws.Tests.{each_iff, word_iff, sentence_iff}
 
 each_fails : (n : ℕ) (p : ℕ → Bool) (j : ℕ) → j < n → p j ≡ false → each n p ≡ false
 each_fails n p j h e = is_false (each n p) (λ a. true≢false (sym ((each_iff n p).0 a j h) ∙ e))
@@ -55,6 +49,10 @@ module _ (f : Pattern) (r : List ℕ) where
 
 module _ (f : Pattern) (t r : List ℕ) where
   -- ---- sentence
+
+  -- where each place is in the text, so is the last
+  pub last_in_text : 1 ≤ f.count → word f t r ≡ true → at r (f.count - 1) ≤ length t
+  last_in_text some holds = ((word_iff f (plain f t) r).0 holds (f.count - 1) (omega arith)).inside.1
 
   pub sentence_true : SentenceIn f (plain f t) r → true ≡ sentence f t r
   sentence_true u = sym ((sentence_iff f (plain f t) r).1 u)

@@ -1,2 +1,3 @@
 -- Laws that the proofs of the steps cite.
 mod Deciding
+mod Testing

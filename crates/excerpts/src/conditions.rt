@@ -8,6 +8,7 @@ use basics::widen;
 use pattern::{Pattern, Slot};
 
 // Whether x lies within low to high.
+#[tactic(auto, unfolding(matching::specs::Occurrences::within))]
 fn within(low: usize, x: usize, high: usize) -> bool
     ensures { result ≡ within low x high }
 {

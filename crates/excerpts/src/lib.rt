@@ -20,6 +20,7 @@ pub enum Tested {
 }
 
 // Whether the row is an occurrence (document 01: test): word, gap and span in the order of Definition 3, then the sentence.
+#[tactic(auto, using(crate::proofs::Testing::steps))]
 pub fn is_occurrence(pattern: Pattern, text: &[u16], row: &[u16]) -> Tested
     ensures { result ≡ is_occurrence pattern text.now row.now }
 {

@@ -21,6 +21,7 @@ fn fewest(excluding: bool) -> usize
 }
 
 // Tests 2, 3 and 4 of slot number k.
+#[tactic(auto, unfolding(crate::specs::Tests::slot_verdict))]
 pub(crate) fn slot_verdict(k: usize, slot: Slot) -> Verdict
     ensures { result ≡ slot_verdict k slot }
 {
@@ -47,6 +48,7 @@ pub(crate) fn slot_verdict(k: usize, slot: Slot) -> Verdict
 }
 
 // Tests 2, 3 and 4, slot by slot.
+#[tactic(auto, using(crate::specs::Laws::Verdicts::slots_refused, crate::specs::Laws::Verdicts::slots_on, crate::specs::Laws::Verdicts::slots_end))]
 pub(crate) fn slots_verdict(pattern: Pattern) -> Verdict
     requires { pattern.count ≤ 16 }
     ensures { result ≡ slots_verdict slot_verdict pattern 0 pattern.count }
@@ -65,6 +67,7 @@ pub(crate) fn slots_verdict(pattern: Pattern) -> Verdict
 }
 
 // Test 16, slot by slot.
+#[tactic(auto, using(crate::specs::Laws::Verdicts::slots_refused, crate::specs::Laws::Verdicts::slots_on, crate::specs::Laws::Verdicts::slots_end))]
 pub(crate) fn order_verdict(pattern: Pattern) -> Verdict
     requires { pattern.count ≤ 16 }
     ensures { result ≡ slots_verdict order_verdict pattern 0 pattern.count }
@@ -82,6 +85,7 @@ pub(crate) fn order_verdict(pattern: Pattern) -> Verdict
 }
 
 // Test 5.
+#[tactic(auto, unfolding(crate::specs::Tests::span_verdict))]
 pub(crate) fn span_verdict(least: u16, most: u16) -> Verdict
     ensures { result ≡ span_verdict least most }
 {

@@ -85,6 +85,7 @@ impl Pattern {
     }
 
     // The pattern with one slot more, after the others; its words are put in rising order, each once.
+    #[tactic(auto, unfolding(crate::specs::Adding::extended))]
     pub fn with_slot(self, low: u16, high: u16, excluding: bool, words: &[u16]) -> Extended
         ensures { result ≡ extended self low high excluding words.now }
     {
@@ -118,6 +119,7 @@ impl Pattern {
     }
 
     // The first of the tests 1 to 5 and 16 that the pattern fails.
+    #[tactic(auto, unfolding(crate::specs::Tests::pattern_verdict, crate::specs::Tests::limits_verdict))]
     pub fn check(self) -> Verdict
         ensures { result ≡ pattern_verdict self }
     {
@@ -140,6 +142,7 @@ impl Pattern {
     }
 
     // The first of the tests 1 to 5, 16 and 6 that the pattern and a text of so many words fail.
+    #[tactic(auto, unfolding(crate::specs::Tests::input_verdict))]
     pub fn check_with(self, words: usize) -> Verdict
         ensures { result ≡ input_verdict self words }
     {

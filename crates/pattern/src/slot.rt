@@ -18,6 +18,7 @@ pub struct Slot {
 }
 
 // Whether the word is one of the first `count` of the words.
+#[tactic(auto, using(crate::proofs::Arrays::among_here, crate::proofs::Arrays::among_later, crate::proofs::Arrays::among_none))]
 fn lists(words: &[u16], count: usize, word: u16) -> bool
     ensures { result ≡ member word (take count words.now) }
 {
@@ -60,6 +61,7 @@ fn stated(count: usize) -> u16
 }
 
 // The first eight of the words, and 0 in the entries that they leave.
+#[tactic(auto, using(basics::specs::Laws::Arrays::pasted_more, crate::proofs::Arrays::pasted_all))]
 fn eight(words: &[u16]) -> [u16; 8]
     ensures { result ≡ padded words.now }
 {
@@ -94,6 +96,7 @@ impl Slot {
     }
 
     // Whether the slot takes the word.
+    #[tactic(auto, unfolding(crate::specs::Patterns::takes))]
     pub fn takes(self, word: u16) -> bool
         ensures { result ≡ takes self word }
     {
@@ -110,6 +113,7 @@ impl Slot {
     }
 
     // The slot as a pattern holds it: its words in rising order, each once; where it states more than eight, as it is.
+    #[tactic(auto, unfolding(crate::specs::Words::canonical))]
     pub fn canonical(self) -> Self
         ensures { result ≡ canonical self }
     {
@@ -140,6 +144,7 @@ impl Slot {
     }
 
     // The slot as twelve numbers: the two bounds of its gap, its mark, how many words it states, and its eight words.
+    #[tactic(auto, using(crate::proofs::Numbers::eight_entries))]
     pub fn numbers(self) -> [u16; 12]
         ensures { Numbers self result }
     {
@@ -161,6 +166,7 @@ impl Slot {
     }
 
     // Whether the slot with these numbers takes the word.
+    #[tactic(auto, unfolding(crate::specs::Numbers::numbers_take))]
     pub fn numbers_take(numbers: &[u16], word: u16) -> bool
         ensures { result ≡ numbers_take numbers.now word }
     {
