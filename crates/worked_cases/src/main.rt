@@ -14,91 +14,99 @@ use excerpts::Tested;
 use matching::Listed;
 use pattern::Pattern;
 use show::{show, show_list, show_refusal, write};
+use std::io;
 use std::num::wrapping_add_usize;
 
 // Writes the count.
-fn show_count(pattern: Pattern, text: &[u16]) {
+fn show_count(rt: &impl Print, pattern: Pattern, text: &[u16]) -> io::Result<()> {
     let answer = matching::support(pattern, text);
     match answer {
-        Listed::Rows(n) => show(b" count ", n as u64),
-        Listed::Refused(why) => show_refusal(why),
+        Listed::Rows(n) => show(rt, " count ", n as u64),
+        Listed::Refused(why) => show_refusal(rt, why),
     }
 }
 
 // Writes the two halves of the tally.
-fn show_tally(pattern: Pattern, text: &[u16]) {
+fn show_tally(rt: &impl Print, pattern: Pattern, text: &[u16]) -> io::Result<()> {
     let answer = counting::tally(pattern, text);
     match answer {
         Tallied::Total { high, low } => {
-            show(b" tally ", high);
-            show(b" ", low);
+            show(rt, " tally ", high)?;
+            show(rt, " ", low)
         }
-        Tallied::Refused(why) => show_refusal(why),
+        Tallied::Refused(why) => show_refusal(rt, why),
     }
 }
 
 // Writes rows of m places, a line for each.
-fn show_rows(list: &[u16], rows: usize, m: usize) {
+fn show_rows(rt: &impl Print, list: &[u16], rows: usize, m: usize) -> io::Result<()> {
     let mut i = 0;
     for r in 0..rows {
-        show_list(part(list, i, m));
-        write(b"\n");
+        show_list(rt, part(list, i, m))?;
+        write(rt, "\n")?;
         i = wrapping_add_usize(i, m);
     }
+    Ok(())
 }
 
 // Writes what a list call answers: how many rows of m places, and these rows.
-fn show_listed(name: &[u8], answer: Listed, list: &[u16], m: usize) {
-    write(name);
+fn show_listed(
+    rt: &impl Print,
+    name: &str,
+    answer: Listed,
+    list: &[u16],
+    m: usize,
+) -> io::Result<()> {
+    write(rt, name)?;
     match answer {
         Listed::Rows(n) => {
-            show(b" ", n as u64);
-            write(b"\n");
-            show_rows(list, n, m);
+            show(rt, " ", n as u64)?;
+            write(rt, "\n")?;
+            show_rows(rt, list, n, m)
         }
         Listed::Refused(why) => {
-            show_refusal(why);
-            write(b"\n");
+            show_refusal(rt, why)?;
+            write(rt, "\n")
         }
     }
 }
 
 // Writes the front list.
-fn show_front(pattern: Pattern, text: &[u16]) {
+fn show_front(rt: &impl Print, pattern: Pattern, text: &[u16]) -> io::Result<()> {
     let mut list = [9u16; 40];
     let answer = matching::leftmost(pattern, text, &mut list);
-    show_listed(b"front", answer, &list, pattern.count);
+    show_listed(rt, "front", answer, &list, pattern.count)
 }
 
 // Writes the back list.
-fn show_back(pattern: Pattern, text: &[u16]) {
+fn show_back(rt: &impl Print, pattern: Pattern, text: &[u16]) -> io::Result<()> {
     let mut list = [9u16; 40];
     let answer = matching::rightmost(pattern, text, &mut list);
-    show_listed(b"back", answer, &list, pattern.count);
+    show_listed(rt, "back", answer, &list, pattern.count)
 }
 
 // Writes all occurrences.
-fn show_all(pattern: Pattern, text: &[u16]) {
+fn show_all(rt: &impl Print, pattern: Pattern, text: &[u16]) -> io::Result<()> {
     let mut list = [9u16; 40];
     let answer = counting::all(pattern, text, &mut list);
-    show_listed(b"all", answer, &list, pattern.count);
+    show_listed(rt, "all", answer, &list, pattern.count)
 }
 
 // Writes a row and whether it is an occurrence.
-fn show_row(pattern: Pattern, text: &[u16], row: &[u16]) {
-    write(b"row");
-    show_list(row);
+fn show_row(rt: &impl Print, pattern: Pattern, text: &[u16], row: &[u16]) -> io::Result<()> {
+    write(rt, "row")?;
+    show_list(rt, row)?;
     let answer = excerpts::is_occurrence(pattern, text, row);
     match answer {
-        Tested::Yes => write(b": yes"),
-        Tested::No => write(b": no"),
-        Tested::Refused(why) => show_refusal(why),
+        Tested::Yes => write(rt, ": yes")?,
+        Tested::No => write(rt, ": no")?,
+        Tested::Refused(why) => show_refusal(rt, why)?,
     }
-    write(b"\n");
+    write(rt, "\n")
 }
 
 // Text number k, counted from 0.
-fn show_text(k: usize)
+fn show_text(rt: &impl Print, k: usize) -> io::Result<()>
     requires { k < 23 }
 {
     let case = case_of(k);
@@ -106,33 +114,34 @@ fn show_text(k: usize)
     let words = case.words;
     let row = case.row;
     let text = first(&words, case.length);
-    show(b"text ", k as u64 + 1);
-    write(b":");
-    show_count(pattern, text);
-    show_tally(pattern, text);
-    write(b"\n");
-    show_front(pattern, text);
-    show_back(pattern, text);
-    show_all(pattern, text);
-    show_row(pattern, text, first(&row, pattern.count));
+    show(rt, "text ", k as u64 + 1)?;
+    write(rt, ":")?;
+    show_count(rt, pattern, text)?;
+    show_tally(rt, pattern, text)?;
+    write(rt, "\n")?;
+    show_front(rt, pattern, text)?;
+    show_back(rt, pattern, text)?;
+    show_all(rt, pattern, text)?;
+    show_row(rt, pattern, text, first(&row, pattern.count))
 }
 
 // The rows of the last text, number 22 from 0, that fail one condition alone.
-fn show_failing() {
+fn show_failing(rt: &impl Print) -> io::Result<()> {
     let case = case_of(22);
     let pattern = case.pattern;
     let words = case.words;
     let text = first(&words, case.length);
     for i in 0..4 {
         let row = failing_row(i);
-        show_row(pattern, text, first(&row, pattern.count));
+        show_row(rt, pattern, text, first(&row, pattern.count))?;
     }
+    Ok(())
 }
 
 // Runs the texts.
-fn main() {
+fn main(rt: HostRuntime) -> io::Result<()> {
     for k in 0..23 {
-        show_text(k);
+        show_text(&rt, k)?;
     }
-    show_failing();
+    show_failing(&rt)
 }
