@@ -7,6 +7,7 @@ use crate::searches::outcome_number;
 use crate::tables::CALLS;
 use cursors::{Client, Cursors};
 use pattern::{Pattern, Verdict};
+use std::io;
 
 // What a call leaves and answers: the number of the outcome or refusal, and the places.
 #[derive(Clone, Copy)]
@@ -66,24 +67,35 @@ fn given(rows: Rows, r: usize) -> [u16; 16] {
 }
 
 // The number that each client was served then.
-fn check_numbers(score: Score, line: [usize; 8], after: Cursors) -> Score {
+fn check_numbers(
+    rt: &impl Print,
+    score: Score,
+    line: [usize; 8],
+    after: Cursors,
+) -> io::Result<Score> {
     let clients = after.clients;
     let mut checked = score;
     for k in 0..4 {
-        checked = checked.number(line[4 + k] as u64, clients[k].served as u64);
+        checked = checked.number(rt, line[4 + k] as u64, clients[k].served as u64)?;
     }
-    checked
+    Ok(checked)
 }
 
 // One call's answer, and the numbers served then.
-fn check_call(score: Score, line: [usize; 8], rows: Rows, answer: Answer) -> Score {
+fn check_call(
+    rt: &impl Print,
+    score: Score,
+    line: [usize; 8],
+    rows: Rows,
+    answer: Answer,
+) -> io::Result<Score> {
     let after = answer.cursors;
     let places = answer.places;
     let expected = given(rows, line[3]);
     let answered = score
-        .number(line[2] as u64, answer.number)
-        .list(&expected, &places);
-    check_numbers(answered, line, after)
+        .number(rt, line[2] as u64, answer.number)?
+        .list(rt, &expected, &places)?;
+    check_numbers(rt, answered, line, after)
 }
 
 // Line i of the table.
@@ -95,6 +107,7 @@ fn line_of(i: usize) -> [usize; 8]
 
 // The calls in the rows `from` to `to` - 1 of the table, one after the other from a state.
 fn check_calls(
+    rt: &impl Print,
     score: Score,
     rows: Rows,
     pattern: Pattern,
@@ -102,7 +115,7 @@ fn check_calls(
     start: Cursors,
     from: usize,
     to: usize,
-) -> Score
+) -> io::Result<Score>
     requires { to ≤ 19 }
 {
     let mut cursors = start;
@@ -110,10 +123,10 @@ fn check_calls(
     for i in from..to {
         let line = line_of(i);
         let answer = call(cursors, line, pattern, text);
-        after = check_call(after, line, rows, answer);
+        after = check_call(rt, after, line, rows, answer)?;
         cursors = answer.cursors;
     }
-    after
+    Ok(after)
 }
 
 // A fresh state, except that client 3 was served so many.
@@ -128,9 +141,9 @@ fn third_served(served: usize) -> Cursors {
 }
 
 // Calls from a fresh state, and calls from one in which client 3 may be served once more.
-pub fn check_clients(score: Score, case: Case, text: &[u16]) -> Score {
+pub fn check_clients(rt: &impl Print, score: Score, case: Case, text: &[u16]) -> io::Result<Score> {
     let pattern = case.pattern;
     let rows = case.front;
-    let fresh = check_calls(score, rows, pattern, text, Cursors::new(), 0, 12);
-    check_calls(fresh, rows, pattern, text, third_served(499), 12, 19)
+    let fresh = check_calls(rt, score, rows, pattern, text, Cursors::new(), 0, 12)?;
+    check_calls(rt, fresh, rows, pattern, text, third_served(499), 12, 19)
 }

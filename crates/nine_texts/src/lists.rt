@@ -6,6 +6,7 @@ use crate::score::{Score, refused, show};
 use counting::Tallied;
 use matching::Listed;
 use pattern::Pattern;
+use std::io;
 
 // Which of a text's lists.
 #[derive(Clone, Copy)]
@@ -120,10 +121,19 @@ fn tried(list: List, pattern: Pattern, text: &[u16], room: usize) -> Called {
 }
 
 // Checks what a call answers and leaves.
-fn check_called(score: Score, number: u64, place: u64, list: [u16; 40], got: Called) -> Score {
+fn check_called(
+    rt: &impl Print,
+    score: Score,
+    number: u64,
+    place: u64,
+    list: [u16; 40],
+    got: Called,
+) -> io::Result<Score> {
     let entries = got.list;
-    let answered = score.number(number, got.number).number(place, got.place);
-    answered.list(first(&list, got.room), first(&entries, got.room))
+    let answered = score
+        .number(rt, number, got.number)?
+        .number(rt, place, got.place)?;
+    answered.list(rt, first(&list, got.room), first(&entries, got.room))
 }
 
 // The place of the refusal 8.
@@ -137,32 +147,39 @@ fn short_place(list: List, count: usize) -> u64 {
 
 // A list with room for one entry more than its rows, which stays, and with room for one less, where it is refused and all stay.
 fn check_list(
+    rt: &impl Print,
     score: Score,
-    name: &[u8],
+    name: &str,
     list: List,
     rows: Rows,
     pattern: Pattern,
     text: &[u16],
-) -> Score {
+) -> io::Result<Score> {
     let wanted = filled(rows, pattern.count);
     let entries = wanted.list;
     let size = wanted.size;
     let long = tried(list, pattern, text, size + 1);
-    show(name, long.number);
-    let written = check_called(score, rows.count as u64, 0, entries, long);
+    show(rt, name, long.number)?;
+    let written = check_called(rt, score, rows.count as u64, 0, entries, long)?;
     if size == 0 {
-        return written;
+        return Ok(written);
     }
     let short = tried(list, pattern, text, size - 1);
     let place = short_place(list, rows.count);
-    check_called(written, 100008, place, [9u16; 40], short)
+    check_called(rt, written, 100008, place, [9u16; 40], short)
 }
 
 // The count alone.
-fn check_support(score: Score, count: usize, pattern: Pattern, text: &[u16]) -> Score {
+fn check_support(
+    rt: &impl Print,
+    score: Score,
+    count: usize,
+    pattern: Pattern,
+    text: &[u16],
+) -> io::Result<Score> {
     let got = rows_number(matching::support(pattern, text));
-    show(b" support ", got);
-    score.number(count as u64, got)
+    show(rt, " support ", got)?;
+    score.number(rt, count as u64, got)
 }
 
 // The high half of a tally, or the refusal's number.
@@ -182,25 +199,31 @@ fn low_number(answer: Tallied) -> u64 {
 }
 
 // The tally: the high half is 0.
-fn check_tally(score: Score, count: usize, pattern: Pattern, text: &[u16]) -> Score {
+fn check_tally(
+    rt: &impl Print,
+    score: Score,
+    count: usize,
+    pattern: Pattern,
+    text: &[u16],
+) -> io::Result<Score> {
     let got = counting::tally(pattern, text);
     let high = high_number(got);
     let low = low_number(got);
-    show(b" tally ", high);
-    show(b" ", low);
-    let first = score.number(0, high);
-    first.number(count as u64, low)
+    show(rt, " tally ", high)?;
+    show(rt, " ", low)?;
+    let first = score.number(rt, 0, high)?;
+    first.number(rt, count as u64, low)
 }
 
 // The lists and counts of a text.
-pub fn check_lists(score: Score, case: Case, text: &[u16]) -> Score {
+pub fn check_lists(rt: &impl Print, score: Score, case: Case, text: &[u16]) -> io::Result<Score> {
     let pattern = case.pattern;
     let rows = case.front;
     let last = case.back;
     let every = case.all;
-    let front = check_list(score, b": front ", List::Front, rows, pattern, text);
-    let back = check_list(front, b" back ", List::Back, last, pattern, text);
-    let support = check_support(back, rows.count, pattern, text);
-    let all = check_list(support, b" all ", List::All, every, pattern, text);
-    check_tally(all, every.count, pattern, text)
+    let front = check_list(rt, score, ": front ", List::Front, rows, pattern, text)?;
+    let back = check_list(rt, front, " back ", List::Back, last, pattern, text)?;
+    let support = check_support(rt, back, rows.count, pattern, text)?;
+    let all = check_list(rt, support, " all ", List::All, every, pattern, text)?;
+    check_tally(rt, all, every.count, pattern, text)
 }

@@ -1,7 +1,7 @@
 // Checks, counted; what a failed one expected and got is written.
 use basics::widen;
-use libc::STDOUT_FILENO;
 use pattern::Refusal;
+use std::io;
 use std::num::{wrapping_add_u64, wrapping_sub_u64};
 
 // How many checks were done, and how many of them failed.
@@ -17,16 +17,16 @@ pub fn refused(why: Refusal) -> u64 {
 }
 
 // Writes a name and a number.
-pub fn show(name: &[u8], n: u64) {
-    io::write_all(STDOUT_FILENO, name);
-    io::print_decimal(STDOUT_FILENO, n);
+pub fn show(rt: &impl Print, name: &str, n: u64) -> io::Result<()> {
+    print!(rt; "{name}{n}")
 }
 
 // Writes the entries of a list, each after a space.
-fn show_list(list: &[u16]) {
+fn show_list(rt: &impl Print, list: &[u16]) -> io::Result<()> {
     for i in 0..list.len() {
-        show(b" ", widen(list[i]) as u64);
+        show(rt, " ", widen(list[i]) as u64)?;
     }
+    Ok(())
 }
 
 // Whether two lists have the same entries.
@@ -58,36 +58,37 @@ impl Score {
     }
 
     // Checks a number.
-    pub fn number(self, expected: u64, got: u64) -> Self {
+    pub fn number(self, rt: &impl Print, expected: u64, got: u64) -> io::Result<Self> {
         if expected == got {
-            return self.with(0);
+            return Ok(self.with(0));
         }
-        show(b" [expected ", expected);
-        show(b", got ", got);
-        io::write_all(STDOUT_FILENO, b"]");
-        self.with(1)
+        print!(rt; " [expected {expected}, got {got}]")?;
+        Ok(self.with(1))
     }
 
     // Checks a list.
-    pub fn list(self, expected: &[u16], got: &[u16]) -> Self {
+    pub fn list(self, rt: &impl Print, expected: &[u16], got: &[u16]) -> io::Result<Self> {
         if same(expected, got) {
-            return self.with(0);
+            return Ok(self.with(0));
         }
-        io::write_all(STDOUT_FILENO, b" [expected");
-        show_list(expected);
-        io::write_all(STDOUT_FILENO, b", got");
-        show_list(got);
-        io::write_all(STDOUT_FILENO, b"]");
-        self.with(1)
+        print!(rt; " [expected")?;
+        show_list(rt, expected)?;
+        print!(rt; ", got")?;
+        show_list(rt, got)?;
+        print!(rt; "]")?;
+        Ok(self.with(1))
     }
 
     // Ends a line with the checks that failed since an earlier score.
-    pub fn close(self, before: Score) {
+    pub fn close(self, rt: &impl Print, before: Score) -> io::Result<()> {
         if self.failed == before.failed {
-            io::write_all(STDOUT_FILENO, b": as expected\n");
-            return;
+            return println!(rt; ": as expected");
         }
-        show(b": failed ", wrapping_sub_u64(self.failed, before.failed));
-        io::write_all(STDOUT_FILENO, b"\n");
+        show(
+            rt,
+            ": failed ",
+            wrapping_sub_u64(self.failed, before.failed),
+        )?;
+        println!(rt; "")
     }
 }

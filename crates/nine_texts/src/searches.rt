@@ -3,6 +3,7 @@ use crate::cases::{Case, Rows, first, padded, row};
 use crate::score::{Score, refused, show};
 use matching::{Outcome, Search};
 use pattern::Pattern;
+use std::io;
 use std::num::wrapping_add_u64;
 
 // Where a search starts, and what it should find: 1 and a row, or 0 and zeros.
@@ -63,48 +64,74 @@ pub fn outcome_number(outcome: Outcome) -> u64 {
 }
 
 // One search's answer.
-fn check_search(score: Score, step: Step, found: Search) -> Score {
+fn check_search(rt: &impl Print, score: Score, step: Step, found: Search) -> io::Result<Score> {
     let outcome = found.outcome;
     let places = found.places;
     let row = step.row;
     let expected = padded(row);
     score
-        .number(step.number, outcome_number(outcome))
-        .list(&expected, &places)
+        .number(rt, step.number, outcome_number(outcome))?
+        .list(rt, &expected, &places)
 }
 
 // Search number k of the front list.
-fn search_forward(score: Score, rows: Rows, k: usize, pattern: Pattern, text: &[u16]) -> Score {
+fn search_forward(
+    rt: &impl Print,
+    score: Score,
+    rows: Rows,
+    k: usize,
+    pattern: Pattern,
+    text: &[u16],
+) -> io::Result<Score> {
     let step = forward(rows, k);
     let marks = step.marks;
     let found = matching::first_after(pattern, text, first(&marks, pattern.count));
-    check_search(score, step, found)
+    check_search(rt, score, step, found)
 }
 
 // Search number k of the back list.
-fn search_backward(score: Score, rows: Rows, k: usize, pattern: Pattern, text: &[u16]) -> Score {
+fn search_backward(
+    rt: &impl Print,
+    score: Score,
+    rows: Rows,
+    k: usize,
+    pattern: Pattern,
+    text: &[u16],
+) -> io::Result<Score> {
     let step = backward(rows, k);
     let marks = step.marks;
     let found = matching::last_before(pattern, text, first(&marks, pattern.count));
-    check_search(score, step, found)
+    check_search(rt, score, step, found)
 }
 
 // One search more in each direction than there are rows.
-fn check_each(score: Score, front: Rows, back: Rows, pattern: Pattern, text: &[u16]) -> Score {
+fn check_each(
+    rt: &impl Print,
+    score: Score,
+    front: Rows,
+    back: Rows,
+    pattern: Pattern,
+    text: &[u16],
+) -> io::Result<Score> {
     let mut after = score;
     for k in 0..=front.count {
-        after = search_forward(after, front, k, pattern, text);
-        after = search_backward(after, back, k, pattern, text);
+        after = search_forward(rt, after, front, k, pattern, text)?;
+        after = search_backward(rt, after, back, k, pattern, text)?;
     }
-    after
+    Ok(after)
 }
 
 // The searches of a text.
-pub fn check_searches(score: Score, case: Case, text: &[u16]) -> Score {
+pub fn check_searches(
+    rt: &impl Print,
+    score: Score,
+    case: Case,
+    text: &[u16],
+) -> io::Result<Score> {
     let pattern = case.pattern;
     let front = case.front;
     let back = case.back;
     let each = wrapping_add_u64(front.count as u64, 1);
-    show(b" searches ", wrapping_add_u64(each, each));
-    check_each(score, front, back, pattern, text)
+    show(rt, " searches ", wrapping_add_u64(each, each))?;
+    check_each(rt, score, front, back, pattern, text)
 }
