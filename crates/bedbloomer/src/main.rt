@@ -2,33 +2,40 @@
 #![tactic(auto)]
 
 ghost use Rattle.std.specs.Prelude.{◌≡◌, ◌≤◌, length, take};
-ghost use Rattle.io.specs.Counts.{IsPrefixLen};
 ghost use Rattle.report.specs.Size.{report_bound};
 ghost use Rattle.report.specs.Report.{reported};
 
-use libc::{STDERR_FILENO, STDIN_FILENO, STDOUT_FILENO};
+use std::io;
+use std::io::Read;
+use std::process::ExitCode;
 
 // What was read: how many bytes, and whether a read failed after them.
-#[derive(Drop)]
+#[derive(Clone, Copy)]
 struct Input {
     bytes: usize,
     failed: bool,
 }
 
 // Reads once to the start of the list: no bytes where the input has ended or the read fails.
-fn read_some(file: i32, list: &mut [u8]) -> Input
+fn read_some<R: Read>(file: &mut R, list: &mut [u8]) -> Input
     ensures { result.bytes ≤ length list.new }
 {
-    let got = libc::read(file, list);
-    Input {
-        bytes: io::count(got, list),
-        failed: got < 0,
+    match file.read(list) {
+        Ok(bytes) => Input {
+            bytes,
+            failed: false,
+        },
+        Err(_) => Input {
+            bytes: 0,
+            failed: true,
+        },
     }
 }
 
 // Reads to the start of the list until the input ends, a read fails or the list is full.
-fn read_all(file: i32, list: &mut [u8]) -> Input
-    ensures { IsPrefixLen result.bytes list.new }
+fn read_all<R: Read>(file: &mut R, list: &mut [u8]) -> Input
+    ensures within { result.bytes ≤ length list.new }
+    ensures prefix_len { result.bytes ≡ length (take result.bytes list.new) }
 {
     let mut done = 0;
     while done < list.len() {
@@ -51,32 +58,32 @@ fn read_all(file: i32, list: &mut [u8]) -> Input
 // Writes the whole report to the start of a list that has room for any.
 fn answer(input: &[u8], out: &mut [u8]) -> usize
     requires { report_bound ≤ length out.old }
-    ensures prefix_len { IsPrefixLen result out.new }
+    ensures within { result ≤ length out.new }
+    ensures prefix_len { result ≡ length (take result out.new) }
     ensures out_after { take result out.new ≡ reported input.now }
 {
     report::report(input, out)
 }
 
-// Prints the report of the input, or says that it could not.
-fn print(input: &[u8]) {
+// Prints the report of the input.
+fn print(rt: &impl Print, input: &[u8]) -> io::Result<()> {
     let mut out = [0u8; report::REPORT_BOUND];
     let n = answer(input, &mut out);
-    if !io::write_all(STDOUT_FILENO, &out[..n]) {
-        io::write_all(
-            STDERR_FILENO,
-            b"bedbloomer: the report could not be written\n",
-        );
-    }
+    rt.write_all(&out[..n])
 }
 
-// Reads, reports, writes.
-fn main() {
-    let mut list = io::large_buffer();
-    let input = read_all(STDIN_FILENO, &mut list);
+// Reads, reports, writes; a read or a write that fails is told on standard error, and the status is then 1.
+fn main(rt: HostRuntime) -> ExitCode {
+    let mut list = [0u8; 65536];
+    let input = read_all(&mut rt.reader(), &mut list);
     let n = input.bytes;
     if input.failed {
-        io::write_all(STDERR_FILENO, b"bedbloomer: the input could not be read\n");
-    } else {
-        print(&list[..n]);
+        let _ = eprintln!(rt; "bedbloomer: the input could not be read");
+        return ExitCode::FAILURE;
     }
+    if print(&rt, &list[..n]).is_err() {
+        let _ = eprintln!(rt; "bedbloomer: the report could not be written");
+        return ExitCode::FAILURE;
+    }
+    ExitCode::SUCCESS
 }
