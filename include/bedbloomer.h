@@ -1,5 +1,5 @@
 /*
- * Bedbloomer for C, and for Rust by the same declarations: link libbindings.a (rt staticlib bindings).
+ * Bedbloomer for C, and for Rust by the same declarations: link libbindings.a (rt lib in crates/bindings).
  *
  * A slice is a pointer and how many entries it has. Every call answers for any values, where its caller sees to this:
  * - Every pointer is not null and is aligned for its entries, also with 0 entries; then it is neither read nor written.

@@ -13,10 +13,10 @@ use compare::cases::orders::rearranged;
 use compare::cases::random::{any_pattern, text_with_stops, Kind, STOPS};
 use compare::rng::Rng;
 
-/// Where the program lies: `BEDBLOOMER_PROGRAM`, or else `../target/bin/bedbloomer`.
+/// Where the program lies: `BEDBLOOMER_PROGRAM`, or else `../crates/bedbloomer/out/bedbloomer`.
 fn program() -> PathBuf {
     let chosen = env::var_os("BEDBLOOMER_PROGRAM");
-    let chosen = chosen.unwrap_or_else(|| "../target/bin/bedbloomer".into());
+    let chosen = chosen.unwrap_or_else(|| "../crates/bedbloomer/out/bedbloomer".into());
     Path::new(env!("CARGO_MANIFEST_DIR")).join(chosen)
 }
 
