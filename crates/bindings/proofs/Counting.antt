@@ -1,9 +1,5 @@
 -- The count for two files: where they are read, pattern and text are accepted, so the support answers with rows. Assumes nothing.
-use Prim.Native.Nat.{ℕ, ◌+◌, ◌-◌, ◌≤◌, ◌<◌}
-use native.Mathlib.Omega.{arith}
-use mathlib.Core.List.{List}
-use mathlib.Core.Path.{◌≡◌, refl, sym, ◌∙◌, ap}
-use lib.ListN.{length, take, drop, length-take}
+use Rattle.std.proofs.Common.{ℕ, ◌+◌, ◌-◌, ◌≤◌, ◌<◌, ◌≡◌, List, length, take, drop, length-take, refl, sym, ◌∙◌, ap, arith}
 use Rattle.pattern.specs.declared.Pattern.{Pattern}
 use Rattle.pattern.specs.declared.refusal.Verdict.{Verdict}
 use Rattle.pattern.specs.declared.refusal.Verdict.TheVariants.{Accepted}
@@ -25,10 +21,6 @@ use Rattle.bindings.proofs.Numbers.{number_range}
 
 -- ---- the number that a read text shows
 
-number_small : (x : TextRead) → (of_text_read x).number ≤ 99
-number_small (Words n) = omega arith
-number_small (Refused why) = (number_range why).1
-
 number_none : (x : TextRead) → (of_text_read x).number ≤ 0 → x ≡ Words (of_text_read x).value
 number_none (Words n) z = refl
 number_none (Refused why) z = absurd (omega (arith, (number_range why).0))
@@ -44,9 +36,6 @@ first_part n e = let z : n - 0 ≡ n = omega arith in rw z (ap (λ (k : List ℕ
 module _ (p t out : List ℕ) {r : ReadBoth} (read : r ≡ of_input_read (input_read p t (length out))) where
   number : r.number ≡ (of_text_read (input_read p t (length out)).text).number
   number = ap (λ (b : ReadBoth). b.number) read
-
-  pub few : r.number ≤ 99
-  few = omega (arith, number, number_small (input_read p t (length out)).text)
 
   -- where a file is refused; the room is the whole limit
   pub count_refused : length out ≡ 20000 → 0 < r.number → 100000 + r.number ≡ count_of p t
@@ -75,8 +64,8 @@ module _ (p t out : List ℕ) {r : ReadBoth} (read : r ≡ of_input_read (input_
       found : s.value ≡ length (leftmost r.pattern ws)
       found = ap (λ (a : Answer). a.value) h ∙ ap (λ (v : Verdict). (of_listed (counted v (leftmost r.pattern ws))).value) accepted
 
-      pub few-rows : s.value ≤ 20000
-      few-rows = omega (arith, found, leftmost-length r.pattern (plain r.pattern ws), ((input-accepted r.pattern (length ws)).0 accepted).short)
+      pub few_rows : s.value ≤ 20000
+      few_rows = omega (arith, found, leftmost-length r.pattern (plain r.pattern ws), ((input-accepted r.pattern (length ws)).0 accepted).short)
 
       pub count_read : length out ≡ 20000 → s.value ≡ count_of p t
       unfolding count_of
