@@ -1,12 +1,12 @@
--- The search's answer and the client that it leaves as the specification has them. Assumes nothing.
-use Prim.Native.Nat.{ℕ, ◌+◌, ◌-◌, ◌≤◌}
+-- The search's answer and the client that it leaves as the specification has them.
+use Prim.Native.Nat.{ℕ, ◌-◌, ◌≤◌}
 use native.Mathlib.Omega.{arith}
-use mathlib.Core.Path.{◌≡◌, refl, sym, ap, ◌∙◌}
+use mathlib.Core.Path.{◌≡◌, refl, ap, ◌∙◌}
 use mathlib.Core.Option.{Option, none, some}
-use mathlib.Core.List.{List, ◌++◌}
-use lib.ListN.{length, take, drop}
+use mathlib.Core.List.{List}
+use lib.ListN.{length, take}
 use lib.Seq.{length-take-le, set-get_or}
-use borrow.Author.Tests.{le-ltb, eq-eqb}
+use borrow.Author.Tests.{eq-eqb}
 use Rattle.pattern.specs.declared.Pattern.{Pattern}
 use Rattle.pattern.specs.declared.refusal.Verdict.TheVariants.{Accepted}
 use Rattle.pattern.specs.Tests.{input_verdict}
@@ -16,7 +16,6 @@ use Rattle.matching.specs.Searches.{earliest}
 use Rattle.matching.specs.Answers.{row_verdict, searched, first_after}
 use Rattle.matching.specs.Laws.Extremes.{earliest_some}
 use Rattle.matching.specs.declared.searches.Search.{Search}
-use Rattle.basics.specs.Written.{row_over}
 use Rattle.cursors.specs.declared.Client.{Client}
 use Rattle.cursors.specs.declared.Cursors.{Cursors}
 use Rattle.cursors.specs.declared.Served.{Served}
@@ -36,15 +35,6 @@ sought f t marks long e =
     let few = few-slots f (length t) e in
     let size : length (take f.count marks) ≡ f.count = length-take-le f.count marks (omega arith) in
     simp (e, eq-eqb _ _ size)
-
--- ---- a client that was served a row
-
-pub overlaid : (m : ℕ) (row : List ℕ) {marks : List ℕ} (before : Client) → m ≤ 16 → length row ≡ 16 → length before.marks ≡ 16
-    → marks ≡ row_over m row before.marks → ◌≡◌ {A = Client} (record { marks = marks; served = before.served + 1 }) (moved (take m row) before)
-overlaid m row {marks} before few long room e =
-    let size : length (take m row) ≡ m = length-take-le m row (omega arith) in
-    let q : marks ≡ take m row ++ drop m before.marks = simp (le-ltb (length row) m (omega arith), le-ltb (length before.marks) m (omega arith)) at e in
-    ap (λ (places : List ℕ). record { marks = places; served = before.served + 1 }) (q ∙ ap (λ (k : ℕ). take m row ++ drop k before.marks) (sym size))
 
 -- ---- what is given
 
