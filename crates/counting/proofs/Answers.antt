@@ -28,8 +28,8 @@ use Rattle.counting.proofs.Columns.{column-numbers}
 -- ---- the tally: the answer, which is not 9
 
 module _ (f : Pattern) (t : List ℕ) where
-  pub tally-answer : {r : Tallied} → r ≡ tallied f t → (r ≡ tallied f t) × (r ≡ Refused Tally → ⊥)
-  tally-answer e = (e, λ n. tallied_not_nine f t (sym e ∙ n) refl)
+  pub tally_never_nine : {r : Tallied} → r ≡ tallied f t → r ≡ Refused Tally → ⊥
+  tally_never_nine e n = tallied_not_nine f t (sym e ∙ n) refl
 
   pub tally_refused : {why : Refusal} → input_verdict f (length t) ≡ Turned why → Refused why ≡ tallied f t
   tally_refused e = rw e
@@ -41,9 +41,6 @@ module _ (f : Pattern) (t : List ℕ) where
 -- ---- all occurrences: the answer, and the list
 
 module _ (f : Pattern) (t l : List ℕ) where
-  pub all_refused : {why : Refusal} → input_verdict f (length t) ≡ Turned why → (Unlisted why ≡ all_listed f t (length l)) × (l ≡ all_written f t l)
-  all_refused e = (rw e, rw e)
-
   module _ (e : input_verdict f (length t) ≡ Accepted) where
     pub all_short : length l < length (occurrences f t) * f.count → (Unlisted (ListLength 0) ≡ all_listed f t (length l)) × (l ≡ all_written f t l)
     all_short h = let b = lt-ltb (length l) (length (occurrences f t) * f.count) h in (rw (e, b), rw (e, b))
@@ -73,19 +70,15 @@ module _ (f : Pattern) (t l : List ℕ) where
 -- ---- how many start at each word: the answer, which is not 9, and the list
 
 module _ (f : Pattern) (t l : List ℕ) where
-  pub starts-answer : {r : Started} {l' : List ℕ} → (r ≡ started f t (length l)) × (l' ≡ starts_written f t l)
-      → (r ≡ started f t (length l)) × ((l' ≡ starts_written f t l) × (r ≡ Unstarted Tally → ⊥))
-  starts-answer a = (a.0, (a.1, λ n. started_not_nine f t (length l) (sym a.0 ∙ n) refl))
+  pub starts_never_nine : {r : Started} → r ≡ started f t (length l) → r ≡ Unstarted Tally → ⊥
+  starts_never_nine e n = started_not_nine f t (length l) (sym e ∙ n) refl
 
-  pub starts_refused : {why : Refusal} → input_verdict f (length t) ≡ Turned why → (Unstarted why ≡ started f t (length l)) × (l ≡ starts_written f t l)
-  starts_refused e = (rw e, rw e)
+  pub starts_refused : {why : Refusal} → input_verdict f (length t) ≡ Turned why → Unstarted why ≡ started f t (length l)
+  starts_refused e = rw e
 
-  module _ (e : input_verdict f (length t) ≡ Accepted) where
-    pub starts_short : length l < length t * 2 → (Unstarted (ListLength 0) ≡ started f t (length l)) × (l ≡ starts_written f t l)
-    starts_short h = let b = lt-ltb (length l) (length t * 2) h in (rw (e, b), rw (e, b))
+  module _ (e : input_verdict f (length t) ≡ Accepted) (room : length t * 2 ≤ length l) where
+    pub starts_fine : Words (length t) ≡ started f t (length l)
+    starts_fine = sym (started-words f t e (length l) room)
 
-    pub starts_fine : length t * 2 ≤ length l → {H L : List ℕ} → Column f (plain f t) H L → {l' : List ℕ} → l' ≡ over l (halves (numbers H L (length t)))
-        → (Words (length t) ≡ started f t (length l)) × (l' ≡ starts_written f t l)
-    starts_fine room c el =
-        let s = started-words f t e (length l) room in
-        (sym s, rw s (el ∙ ap (λ (o : List ℕ). over l (halves o)) (column-numbers f t c)))
+    pub starts_list : {H L : List ℕ} → Column f (plain f t) H L → {l' : List ℕ} → l' ≡ over l (halves (numbers H L (length t))) → l' ≡ starts_written f t l
+    starts_list c el = rw (← starts_fine) (el ∙ ap (λ (o : List ℕ). over l (halves o)) (column-numbers f t c))

@@ -227,6 +227,13 @@ module _ {f : Pattern} {w : Window} {j r n : ℕ} (c : Stage f w j r n) (pos : 0
     unfolding size
     size_less = let x = c.rows in let y = c.reach in let z = reach_back in (omega arith, omega arith)
 
+-- the same in a run, for the widest gap before the slot
+pub run_back : {m reach : ℕ} {low high T : List ℕ} {w : Window} (g : Run m reach low high T w) {j r n : ℕ} → Stage (run_pattern g) w j r n → 0 < j
+    → {wide : ℕ} → wide ≡ get_or high j 0 → (wide ≤ r) × (1 ≤ r - wide) × (r ≤ 960)
+run_back g s pos e =
+    let b = reach_back s pos (run_high g s.inside e) in
+    (b.0, b.1, (stage_small g.plan.handed.input.pattern s).0)
+
 -- what a turn of the loop does: the row is summed, and spread to the slot before
 module _ {f : Pattern} {v : View} {w : Window} {j r n : ℕ} {H L : List ℕ} (c : Counting f v w j r n H L) (ok : Input f v) (inside : w.first + w.places ≤ v.places) where
   pub counting_room : Room n H L

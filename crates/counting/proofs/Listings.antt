@@ -19,11 +19,13 @@ use Rattle.counting.specs.Steps.Inputs.{Input}
 use Rattle.counting.specs.Laws.Inputs.{gaps}
 use Rattle.counting.specs.Laws.Runs.{gather_same, run_split, length_run, run_one, put-append, put_written}
 use Rattle.counting.specs.Steps.Fits.{Fitted}
-use Rattle.counting.specs.Steps.Plans.{Handed, unbound}
+use Rattle.counting.specs.Steps.Plans.{Handed, Run, plan_pattern, plan_view, run_pattern, run_view, unbound}
 use Rattle.counting.specs.Steps.Rows.{size, stop_at}
 use Rattle.counting.specs.Steps.Tables.{rows_of, rows_at, Tabled}
 use Rattle.counting.specs.Steps.Walks.{run, put, Leads, Walk, Walked}
-use Rattle.counting.proofs.Parting.{sentence_at, start_at, stop-sentence, stop_start, from_start, off_fits, starting_off, sentence-rows}
+use Rattle.counting.specs.Steps.Listings.{PutWhole, PutEach}
+use Rattle.counting.proofs.Distances.{span_some}
+use Rattle.counting.proofs.Parting.{last_inside, sentence_at, sentence_run, start_at, start_run, stop-sentence, stop_start, from_start, off_fits, starting_off, sentence-rows}
 use Rattle.counting.proofs.Tabling.{rows_last, rows_step, rows_child}
 
 -- ---- a window's table leads through its rows
@@ -188,3 +190,52 @@ module _ {f : Pattern} {v : View} (ok : Input f v) where
         let d : e - i - 0 ≡ e - i = omega arith in
         rw d (gather_same (e - i) (rows_at f v (sentence_at i e) 0) (start_rows f v) 0 i
         (λ k h. let c : i + (0 + k) + 1 ≡ i + k + 1 = omega arith in rw (c, x, z) (sym (sentence-rows ok spans inside ee (i + k) (omega arith) (omega arith)))))
+
+-- ---- a turn of the two loops: a walk over a window's table, from the index i on
+
+-- over a sentence
+module _ {m n reach : ℕ} {low high T E l : List ℕ} (g : PutWhole m n reach low high T E (length l)) {i rows : ℕ} {l' : List ℕ}
+    (s : Listing (plan_pattern g.parts.plan) (plan_view g.parts.plan) l i rows l') (inside : i < n) {e : ℕ} (d : e ≡ get_or E i 0)
+    {N : List ℕ} (table : (r : Run m reach low high T (sentence_at i e)) → Tabled (run_pattern r) (run_view r) (sentence_at i e) 0 N) (long : 320016 ≤ length N) where
+  sentence_rows : run (rows_at (plan_pattern g.parts.plan) (plan_view g.parts.plan) (sentence_at i e) 0) 0 (e - i) ≡ run (start_rows (plan_pattern g.parts.plan) (plan_view g.parts.plan)) i e
+  sentence_rows = sentence_runs g.parts.plan.handed.input inside (d ∙ g.parts.horizons.last i inside) g.spans
+
+  sentence_leads : Leads m i low high N (size (plan_pattern g.parts.plan) (sentence_at i e)) (rows_at (plan_pattern g.parts.plan) (plan_view g.parts.plan) (sentence_at i e))
+  sentence_leads = let r = sentence_run g.parts inside d in leading _ _ _ g.parts.plan.handed r.inside (table r) long
+
+  sentence_last : e - i - 1 + 1 ≡ e - i
+  sentence_last = omega (arith, last_inside g.parts.horizons inside d)
+
+  pub sentence_walk : Walk m i low high N 0 0 (e - i - 1) rows (length l')
+  sentence_walk =
+      let b = last_inside g.parts.horizons inside d in
+      window_walk g.parts.plan.handed.input s (sentence_at i e) b.0 b.1 sentence_last sentence_rows sentence_leads g.room
+
+  pub sentence_listed : {row : List ℕ} {r : ℕ} {l'' : List ℕ} → length l'' ≡ length l' → Walked sentence_walk row l' r l''
+      → Listing (plan_pattern g.parts.plan) (plan_view g.parts.plan) l e r l''
+  unfolding sentence_walk
+  sentence_listed same w =
+      let b = last_inside g.parts.horizons inside d in
+      listing_more g.parts.plan.handed.input s (sentence_at i e) b.0 b.1 sentence_last sentence_rows sentence_leads g.room same w
+
+-- over the places that a row can span from its first one on
+module _ {m n reach least span : ℕ} {low high T E l : List ℕ} (g : PutEach m n reach least span low high T E (length l)) {i rows : ℕ} {l' : List ℕ}
+    (s : Listing (plan_pattern g.parts.plan) (plan_view g.parts.plan) l i rows l') (inside : i < n) {e k : ℕ} (d : e ≡ get_or E i 0) (ek : k ≡ min span (e - i))
+    {N : List ℕ} (table : (r : Run m reach low high T (start_at i k (i + least))) → Tabled (run_pattern r) (run_view r) (start_at i k (i + least)) 0 N) (long : 320016 ≤ length N) where
+  place_rows : run (rows_at (plan_pattern g.parts.plan) (plan_view g.parts.plan) (start_at i k (i + least)) 0) 0 (i + 1 - i)
+      ≡ run (start_rows (plan_pattern g.parts.plan) (plan_view g.parts.plan)) i (i + 1)
+  place_rows = start_rows_lem g.parts.plan.handed.input inside (d ∙ g.parts.horizons.last i inside) g.wide ek (omega (arith, g.from))
+
+  place_leads : Leads m i low high N (size (plan_pattern g.parts.plan) (start_at i k (i + least))) (rows_at (plan_pattern g.parts.plan) (plan_view g.parts.plan) (start_at i k (i + least)))
+  place_leads =
+      let h = g.parts.plan.handed in
+      let r = start_run g.parts inside d (span_some h.input.pattern g.wide) ek in
+      leading _ _ _ h r.inside (table r) long
+
+  pub place_walk : Walk m i low high N 0 0 0 rows (length l')
+  place_walk = window_walk g.parts.plan.handed.input s (start_at i k (i + least)) (omega arith) (omega arith) (omega arith) place_rows place_leads g.room
+
+  pub place_listed : {row : List ℕ} {r : ℕ} {l'' : List ℕ} → length l'' ≡ length l' → Walked place_walk row l' r l''
+      → Listing (plan_pattern g.parts.plan) (plan_view g.parts.plan) l (i + 1) r l''
+  unfolding place_walk
+  place_listed same w = listing_more g.parts.plan.handed.input s (start_at i k (i + least)) (omega arith) (omega arith) (omega arith) place_rows place_leads g.room same w

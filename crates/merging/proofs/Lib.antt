@@ -1,3 +1,4 @@
 -- Laws that the proofs of several functions share.
 mod Gathering
+mod Inputs
 mod Union

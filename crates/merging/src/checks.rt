@@ -6,6 +6,7 @@ ghost use Rattle.merging.specs.Merging.{remains, shared_verdict, room_verdict};
 use pattern::{Pattern, Refusal, Slot, Verdict};
 
 // Whether some word is left to the slot, and some number to its gap.
+#[tactic(auto, unfolding(crate::specs::Merging::remains))]
 fn remains(slot: Slot) -> bool
     ensures { result ≡ remains slot }
 {

@@ -31,6 +31,7 @@ fn refuse(why: Refusal) -> Merged
 }
 
 // The merged pattern or, where 18 or 19 applies, the refusal.
+#[tactic(auto, unfolding(crate::specs::Merging::result_verdict))]
 fn judge(pattern: Pattern) -> Merged
     requires { pattern.count ≤ 16 }
     ensures { result ≡ answered (result_verdict pattern) pattern }
@@ -67,6 +68,7 @@ fn merged_pattern(first: Pattern, second: Pattern) -> Pattern
 }
 
 // Two patterns into one: a row is an occurrence of it exactly when it is one of both.
+#[tactic(auto, using(crate::proofs::Inputs::few_slots, crate::proofs::Inputs::mergeable), unfolding(crate::specs::Merging::merged, crate::specs::Merging::merge_verdict))]
 pub fn merge(first: Pattern, second: Pattern) -> Merged
     ensures { result ≡ merged first second }
 {
