@@ -8,7 +8,7 @@ use Rattle.pattern.specs.Tests.{input_verdict}
 use Rattle.matching.specs.Occurrence.{plain}
 use Rattle.matching.specs.Answers.{counted}
 use Rattle.matching.specs.Lists.{leftmost}
-use Rattle.matching.specs.Laws.Lengths.{leftmost-length}
+use Rattle.matching.proofs.Laws.Lengths.{leftmost-length}
 use Rattle.format.specs.Input.{input_read, input_written}
 use Rattle.format.specs.Laws.Input.{ReadBoth as BothRead, input_read_lem}
 use Rattle.format.specs.declared.texts.TextRead.{TextRead}

@@ -5,7 +5,7 @@ use Rattle.basics.specs.Choice.{pick}
 use Rattle.pattern.specs.declared.Pattern.{Pattern}
 use Rattle.matching.specs.Occurrence.{plain, ends_at}
 use Rattle.matching.specs.Spans.{next_end, horizon}
-use Rattle.matching.specs.Laws.Sentences.{next_end_is}
+use Rattle.matching.proofs.Laws.Sentences.{next_end_is}
 use Rattle.counting.specs.Steps.Sentences.{Horizons}
 
 next_end_none : (ends : ℕ → Bool) (n p : ℕ) → n ≡ 0 → next_end ends n p ≡ p

@@ -11,8 +11,8 @@ use Rattle.basics.specs.Laws.Arrays.{zeros_at}
 use Rattle.basics.specs.Laws.Sums.{total_same}
 use Rattle.matching.specs.Branches.{ways}
 use Rattle.matching.specs.Spans.{width, horizon, limit, least}
-use Rattle.matching.specs.Laws.Cover.{count_each, tally-places}
-use Rattle.matching.specs.Laws.Sentences.{horizon_past}
+use Rattle.matching.proofs.Laws.Cover.{count_each, tally-places}
+use Rattle.matching.proofs.Laws.Sentences.{horizon_past}
 use Rattle.counting.specs.Steps.Inputs.{Input}
 use Rattle.counting.specs.Steps.Numbers.{val, numbers}
 use Rattle.counting.specs.Laws.Bound.{tally_fits}

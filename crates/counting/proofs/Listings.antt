@@ -8,12 +8,12 @@ use Rattle.matching.specs.Occurrence.{View}
 use Rattle.matching.specs.Occurrences.{occurrences_in, starting_in, places}
 use Rattle.basics.specs.Written.{written}
 use Rattle.basics.specs.Laws.Collections.{every_map}
-use Rattle.matching.specs.Laws.Enumeration.{occurrences-occur}
+use Rattle.matching.proofs.Laws.Enumeration.{occurrences-occur}
 use Rattle.basics.specs.Sums.{gather}
-use Rattle.matching.specs.Laws.Branches.{tree, forest}
+use Rattle.matching.proofs.Laws.Branches.{tree, forest}
 use Rattle.matching.specs.Spans.{width, horizon, limit, least}
-use Rattle.matching.specs.Laws.Cover.{occurrences_each, starting_each}
-use Rattle.matching.specs.Laws.Sentences.{horizon_past}
+use Rattle.matching.proofs.Laws.Cover.{occurrences_each, starting_each}
+use Rattle.matching.proofs.Laws.Sentences.{horizon_past}
 use Rattle.counting.specs.declared.window.Window.{Window}
 use Rattle.counting.specs.Steps.Inputs.{Input}
 use Rattle.counting.specs.Laws.Inputs.{gaps}

@@ -6,7 +6,7 @@ use borrow.Author.Tests.{lt-leb}
 use Rattle.basics.specs.Sums.{total, rest}
 use Rattle.basics.specs.Laws.Sums.{total_split, rest_step}
 use Rattle.basics.specs.Choice.{when}
-use Rattle.matching.specs.Laws.Enumeration.{each_length, each_at}
+use Rattle.matching.proofs.Laws.Enumeration.{each_length, each_at}
 use Rattle.counting.specs.Steps.Numbers.{val, numbers}
 use Rattle.counting.specs.Steps.Fits.{fitted}
 use Rattle.counting.specs.Steps.Rows.{Room, Ended, Falling, Spread, Summable, Summed}

@@ -10,9 +10,9 @@ use Rattle.basics.specs.Choice.{when}
 use Rattle.basics.specs.Laws.Choice.{is_false}
 use Rattle.matching.specs.Branches.{stands, branches, ways}
 use Rattle.matching.specs.Spans.{width, horizon, limit, least}
-use Rattle.matching.specs.Laws.Branches.{length-branches, tree}
-use Rattle.matching.specs.Laws.Cover.{starting_each, starting_all}
-use Rattle.matching.specs.Laws.Sentences.{horizon_is, horizon_past, horizon_inside, horizon_same}
+use Rattle.matching.proofs.Laws.Branches.{length-branches, tree}
+use Rattle.matching.proofs.Laws.Cover.{starting_each, starting_all}
+use Rattle.matching.proofs.Laws.Sentences.{horizon_is, horizon_past, horizon_inside, horizon_same}
 use Rattle.counting.specs.declared.gaps.Outline.{Outline}
 use Rattle.counting.specs.declared.window.Window.{Window}
 use Rattle.counting.specs.Steps.Inputs.{Input}

@@ -14,7 +14,7 @@ use Rattle.pattern.specs.Laws.Accepting.{input-accepted}
 use Rattle.matching.specs.Occurrence.{plain}
 use Rattle.matching.specs.Searches.{earliest}
 use Rattle.matching.specs.Answers.{row_verdict, searched, first_after}
-use Rattle.matching.specs.Laws.Extremes.{earliest_some}
+use Rattle.matching.proofs.Laws.Extremes.{earliest_some}
 use Rattle.matching.specs.declared.searches.Search.{Search}
 use Rattle.cursors.specs.declared.Client.{Client}
 use Rattle.cursors.specs.declared.Cursors.{Cursors}

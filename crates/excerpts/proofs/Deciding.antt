@@ -5,7 +5,7 @@ use Rattle.pattern.specs.declared.Pattern.{Pattern}
 use Rattle.pattern.specs.Patterns.{slot_at}
 use Rattle.matching.specs.Occurrence.{plain, takes_at, ends_at, at, word_at, Unbroken, SentenceIn}
 use Rattle.matching.specs.Occurrences.{within, each, place_fits_in, word_in, word, gap_fits, gap, span, sentence}
-use Rattle.matching.specs.Laws.Tests.{each_iff, word_iff, sentence_iff}
+use Rattle.matching.proofs.Laws.Tests.{each_iff, word_iff, sentence_iff}
 
 each_fails : (n : ℕ) (p : ℕ → Bool) (j : ℕ) → j < n → p j ≡ false → each n p ≡ false
 each_fails n p j h e = is_false (each n p) (λ a. true≢false (sym ((each_iff n p).0 a j h) ∙ e))

@@ -7,7 +7,7 @@ use Rattle.pattern.specs.declared.Pattern.{Pattern}
 use Rattle.pattern.specs.declared.refusal.Verdict.TheVariants.{Accepted}
 use Rattle.matching.specs.Answers.{row_verdict}
 use Rattle.matching.specs.Occurrences.{word, gap, span, sentence}
-use Rattle.matching.specs.Laws.Ready.{row-accepted}
+use Rattle.matching.proofs.Laws.Ready.{row-accepted}
 use Rattle.excerpts.specs.declared.Tested.TheVariants.{Yes, No}
 use Rattle.excerpts.specs.Answers.{is_occurrence}
 use Rattle.excerpts.specs.Laws.Conditions.{tested}

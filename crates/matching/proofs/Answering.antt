@@ -16,22 +16,16 @@ use Rattle.matching.specs.Searches.{earliest, latest}
 use Rattle.matching.specs.Answers.{sixteen, searched}
 use Rattle.matching.specs.Steps.Settling.{Ready, Reported, Answered, AnsweredBack, Copied, Spare, shown_answer}
 use Rattle.matching.specs.Steps.Turning.{flip, Flipped}
-use Rattle.matching.specs.Laws.Extremes.{earliest_some, earliest_none, latest_some, latest_none, earliest_same, latest_same}
-use Rattle.matching.specs.Laws.Mirror.{length-flip, Opposite, flip-opposite, Facing, nearest_back, none_back}
-use Rattle.matching.specs.Laws.Ready.{RowAccepted}
+use Rattle.matching.proofs.Laws.Extremes.{earliest_some, earliest_none, latest_some, latest_none, earliest_same, latest_same}
+use Rattle.matching.proofs.Laws.Mirror.{length-flip, Opposite, flip-opposite, Facing, nearest_back, none_back}
+use Rattle.matching.proofs.Laws.Ready.{RowAccepted}
 
 -- ---- the marks as a row
-
-pub copied : {marks p : List ℕ} {j : ℕ} → length p ≡ 16 → length marks ≤ j → ((k : ℕ) → k < j → at p k ≡ at marks k) → ((k : ℕ) → j ≤ k → at p k ≡ 0) → Copied marks p
-copied {marks} {p} {j} e l same rest = record { size = e; same = λ k. elim (dec_lt k j) [ yes h ↦ same k h | no h ↦ rest k (omega arith) ∙ sym (at_past marks k (omega arith)) ] }
 
 pub copied-spare : {marks p : List ℕ} {m : ℕ} → length marks ≡ m → Copied marks p → Spare m p
 copied-spare {marks} e C = record { size = C.size; rest = λ j h. C.same j ∙ at_past marks j (omega arith) }
 
 -- ---- a search from the end
-
-pub flipped_spare : {m k n : ℕ} {row p : List ℕ} → k ≡ m → Flipped m n row p → Spare k p
-flipped_spare e F = record { size = F.size; rest = λ j h. F.rest j (omega arith) }
 
 -- a row of an array, read from the end
 pub same_row : {m n : ℕ} {row near : List ℕ} → length row ≡ 16 → m ≤ 16 → Flipped m n row near → take m near ≡ flip n (take m row)

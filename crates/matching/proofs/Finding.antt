@@ -13,10 +13,10 @@ use Rattle.matching.specs.Occurrence.{View, SentenceIn, OccursIn, at}
 use Rattle.matching.specs.Rows.{level, Before, NotAfter}
 use Rattle.matching.specs.Lists.{leftmost_in}
 use Rattle.matching.specs.Steps.Settling.{Ready, Answered, Spare}
-use Rattle.matching.specs.Laws.Direction.{forwards}
-use Rattle.matching.specs.Laws.Greedy.{Run, start, run-append, run_done, run_split}
+use Rattle.matching.proofs.Laws.Direction.{forwards}
+use Rattle.matching.proofs.Laws.Greedy.{Run, start, run-append, run_done, run_split}
 use Rattle.matching.specs.Searches.{EarliestIn}
-use Rattle.matching.specs.Laws.Extremes.{leftmost-front, front_unique}
+use Rattle.matching.proofs.Laws.Extremes.{leftmost-front, front_unique}
 
 pub take_zeros : (m n : ℕ) → m ≤ n → take m (replicate n 0) ≡ level m 0
 take_zeros zero n h = refl

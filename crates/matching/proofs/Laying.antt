@@ -1,19 +1,16 @@
 -- Slots as numbers: what laying out a slot leaves in the list, and what a search reads from it. Assumes nothing.
-use Prim.Native.Nat.{ℕ, ◌+◌, ◌-◌, ◌*◌, ◌≤◌, ◌<◌}
+use Prim.Native.Nat.{ℕ, ◌+◌, ◌*◌, ◌≤◌, ◌<◌}
 use native.Mathlib.Omega.{arith}
-use mathlib.Core.List.{List, ◌++◌}
+use mathlib.Core.List.{List}
 use mathlib.Core.Path.{◌≡◌, sym, ap, ◌∙◌}
 use borrow.Author.Count.{below_more}
-use borrow.Rule.Slice.PartMut.{put_mid}
-use lib.ListN.{length, take, drop, replicate, length-replicate, length-take, length-drop, get_or-append}
-use lib.Seq.{paste, length-paste, take-paste, length-take-le, get_or-take, get_or-drop, get_or-append-add, ext_get_or}
+use lib.ListN.{length, take, drop, length-take, length-drop}
+use lib.Seq.{length-take-le, get_or-take, get_or-drop, ext_get_or}
 use Rattle.pattern.specs.declared.slot.Slot.{Slot}
 use Rattle.pattern.specs.declared.Pattern.{Pattern}
 use Rattle.pattern.specs.Patterns.{slot_at}
 use Rattle.pattern.specs.Numbers.{Numbers}
 use Rattle.matching.specs.Occurrence.{at}
-use Rattle.basics.specs.Written.{row_over}
-use Rattle.basics.specs.Laws.Lending.{row-pasted}
 use Rattle.matching.specs.Steps.Settling.{Ready}
 use Rattle.matching.specs.Steps.Laid.{LaidSlot, SlotLaid, LaidOut, Plan}
 
@@ -31,46 +28,6 @@ part_is a l n room e h =
     let f = part_length a l room in
     ext_get_or 0 (take 12 (drop a l)) n (f ∙ sym e) (λ i k. let d : i < 12 = omega arith in part_at a l i d ∙ h i d)
 
--- the entries of a list with n entries of s over it from b on
-module _ (d : List ℕ) (b : ℕ) (s : List ℕ) (n : ℕ) (hb : b ≤ length d) (hn : n ≤ length s) where
-  paste_head : (i : ℕ) → i < b + n → at (paste d b s n) i ≡ at (take b d ++ take n s) i
-  paste_head i h = sym (get_or-take (b + n) (paste d b s n) i 0 h) ∙ ap (λ (l : List ℕ). at l i) (take-paste d b s n hb hn)
-
-  paste_before : (i : ℕ) → i < b → at (paste d b s n) i ≡ at d i
-  paste_before i h =
-      let k : i < length (take b d) = omega (arith, length-take-le b d hb) in
-      paste_head i (omega arith) ∙ get_or-append (take b d) (take n s) 0 i k ∙ get_or-take b d i 0 h
-
-  paste_in : (i : ℕ) → i < n → at (paste d b s n) (b + i) ≡ at s i
-  paste_in i h =
-      paste_head (b + i) (omega arith)
-      ∙ ap (λ (k : ℕ). at (take b d ++ take n s) (k + i)) (sym (length-take-le b d hb))
-      ∙ get_or-append-add (take b d) (take n s) i 0
-      ∙ get_or-take n s i 0 h
-
--- the slot's numbers n over the list from a on, by a row that was put there
-module _ {s : Slot} {n : List ℕ} (N : Numbers s n) (a : ℕ) (l : List ℕ) (room : a + 12 ≤ length l) {ys : List ℕ} (put : ys ≡ row_over 12 n (take (length l - a) (drop a l))) where
-  twelve : length n ≡ 12
-  twelve = let e = N.eight in ap length N.is ∙ omega arith
-
-  abbrev whole : List ℕ
-  whole = put_mid a (length l - a) l ys
-
-  pasted : whole ≡ paste l a n 12
-  pasted = row-pasted l a (omega arith) n ys 12 (omega (arith, twelve)) room put
-
-  pub slot-size : length whole ≡ length l
-  slot-size = ap length pasted ∙ length-paste l a n 12 (omega arith) (omega (arith, twelve))
-
-  pub slot-laid : SlotLaid s a l whole
-  slot-laid =
-      let few : 12 ≤ length n = omega (arith, twelve) in
-      let part : take 12 (drop a whole) ≡ n = part_is a whole n (omega (arith, slot-size)) twelve (λ i h. ap (λ (r : List ℕ). at r (a + i)) pasted ∙ paste_in l a n 12 (omega arith) few i h) in
-      record {
-        slot = record { numbers = rw part N };
-        before = λ k h. ap (λ (r : List ℕ). at r k) pasted ∙ paste_before l a n 12 (omega arith) few k h;
-      }
-
 -- ---- the slots below j are laid out
 
 laid_room : {s : Slot} {a : ℕ} {l : List ℕ} → LaidSlot s a l → a + 12 ≤ length l
@@ -86,9 +43,6 @@ pub record Laying (f : Pattern) (j : ℕ) (l : List ℕ) : Type 0 where
   pub inside : j ≤ f.count
   pub slot : (k : ℕ) → k < j → LaidSlot (slot_at f k) (12 * k) l
 
-pub laying_begin : {f : Pattern} → Laying f 0 (replicate 192 0)
-laying_begin = record { size = length-replicate {A = ℕ} 192 0; inside = omega arith; slot = λ k h. absurd (omega arith) }
-
 pub laying_more : {f : Pattern} {j : ℕ} {l l' : List ℕ} → Laying f j l → j < f.count → length l' ≡ length l → SlotLaid (slot_at f j) (12 * j) l l' → Laying f (j + 1) l'
 laying_more {j = j} L h e S =
     record {
@@ -96,9 +50,6 @@ laying_more {j = j} L h e S =
       inside = omega arith;
       slot = below_more _ j (λ k g. laid_kept (L.slot k g) (omega arith) (omega (arith, laid_room S.slot)) e S.before) S.slot;
     }
-
-pub laying_end : {f : Pattern} {j : ℕ} {l : List ℕ} → Laying f j l → f.count ≤ j → LaidOut f l
-laying_end L h = record { size = L.size; slot = λ k g. L.slot k (omega arith) }
 
 -- ---- what a search is given
 

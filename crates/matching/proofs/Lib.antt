@@ -1,5 +1,5 @@
--- Laws that the proofs of several functions share.
-mod Least
+-- What follows from the definitions (`Laws`), and what the proofs of several functions share.
+pub mod Laws
 mod Reading
 mod Laying
 mod Raising

@@ -20,18 +20,18 @@ use Rattle.matching.specs.Occurrence.{View, plain}
 use Rattle.matching.specs.Lists.{leftmost, leftmost_in}
 use Rattle.basics.specs.Written.{flat, written}
 use Rattle.matching.specs.Answers.{listed, filled, Best}
-use Rattle.matching.specs.Steps.Settling.{Ready, Entries}
+use Rattle.matching.specs.Steps.Settling.{Ready}
 use Rattle.matching.specs.Steps.Turning.{viewed, flip}
 use Rattle.matching.specs.Steps.Listing.{Faces, Room, shown_rows, stored}
 use Rattle.basics.specs.Laws.Collections.{every_map}
 use Rattle.basics.specs.Laws.Written.{length-flat}
-use Rattle.matching.specs.Laws.Direction.{forwards}
-use Rattle.matching.specs.Laws.Bounding.{greedy_hits}
-use Rattle.matching.specs.Laws.Extremes.{leftmost-front, back_unique}
-use Rattle.matching.specs.Laws.Largest.{largest}
-use Rattle.matching.specs.Laws.Lengths.{leftmost-length}
-use Rattle.matching.specs.Laws.Mirror.{front_back_list}
-use Rattle.matching.specs.Laws.Turning.{turned_facing, turned-ready}
+use Rattle.matching.proofs.Laws.Direction.{forwards}
+use Rattle.matching.proofs.Laws.Bounding.{greedy_hits}
+use Rattle.matching.proofs.Laws.Extremes.{leftmost-front, back_unique}
+use Rattle.matching.proofs.Laws.Largest.{largest}
+use Rattle.matching.proofs.Laws.Lengths.{leftmost-length}
+use Rattle.matching.proofs.Laws.Mirror.{front_back_list}
+use Rattle.matching.proofs.Laws.Turning.{turned_facing, turned-ready}
 use Rattle.matching.proofs.Reversing.{flat_reversed}
 
 -- ---- the rows turned round
@@ -57,27 +57,14 @@ turned-written g u some n rows l₀ {l} {l'} r q e =
 shown_back : (b : Bool) → b ≡ true → (n : ℕ) (R : List (List ℕ)) → shown_rows b n R ≡ reverse (map (flip n) R)
 shown_back b e n R = rw e
 
-shown_on : (b : Bool) → b ≡ false → (n : ℕ) (R : List (List ℕ)) → shown_rows b n R ≡ R
-shown_on b e n R = rw e
-
--- the rows that were found, so many, stand in the list l₁
-module _ {g : Pattern} {b : Bool} {t l : List ℕ} (R : Room g b t l) {rows : ℕ} (N : rows ≡ length (leftmost_in g (viewed b g t))) where
-  abbrev F : List (List ℕ)
-  F = leftmost_in g (viewed b g t)
-
-  pub turnable : {l₁ : List ℕ} → length l₁ ≡ length l → Entries (rows * g.count) (length t) l₁
-  turnable e = record { inside = omega (arith, ap (λ (x : ℕ). x * g.count) N, R.rows); short = R.ready.short }
-
-  module _ {l₁ : List ℕ} (W : l₁ ≡ written g.count F l) where
-    pub stored_on : b ≡ false → (Rows rows ≡ Rows (length F)) × (l₁ ≡ written g.count (shown_rows b (length t) F) l)
-    stored_on e = (ap Rows N, W ∙ ap (λ (x : List (List ℕ)). written g.count x l) (sym (shown_on b e (length t) F)))
-
-    pub stored_back : b ≡ true → {l₂ : List ℕ} → l₂ ≡ flip (length t) (take (rows * g.count) l₁) ++ drop (rows * g.count) l₁
-        → (Rows rows ≡ Rows (length F)) × (l₂ ≡ written g.count (shown_rows b (length t) F) l)
-    stored_back e T = (
-      ap Rows N,
-      turned-written g (viewed b g t) R.ready.some (length t) rows l N W T ∙ ap (λ (x : List (List ℕ)). written g.count x l) (sym (shown_back b e (length t) F)),
-    )
+-- the rows that were found, so many, stand in the list l₁, and turned round in l₂
+pub stored_back : {g : Pattern} {b : Bool} {t l : List ℕ} → Room g b t l → {rows : ℕ} → rows ≡ length (leftmost_in g (viewed b g t))
+    → {l₁ : List ℕ} → l₁ ≡ written g.count (leftmost_in g (viewed b g t)) l → b ≡ true
+    → {l₂ : List ℕ} → l₂ ≡ flip (length t) (take (rows * g.count) l₁) ++ drop (rows * g.count) l₁
+    → l₂ ≡ written g.count (shown_rows b (length t) (leftmost_in g (viewed b g t))) l
+stored_back {g} {b} {t} {l} R {rows} N W e T =
+    let F = leftmost_in g (viewed b g t) in
+    turned-written g (viewed b g t) R.ready.some (length t) rows l N W T ∙ ap (λ (x : List (List ℕ)). written g.count x l) (sym (shown_back b e (length t) F))
 
 -- ---- the pattern as it is searched
 

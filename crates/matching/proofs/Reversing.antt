@@ -9,7 +9,7 @@ use lib.Seq.{get_or-set_same, get_or-set_other, get_or-take, get_or-drop, length
 use Rattle.matching.specs.Occurrence.{at}
 use Rattle.basics.specs.Written.{flat}
 use Rattle.matching.specs.Steps.Turning.{flip}
-use Rattle.matching.specs.Laws.Mirror.{length-flip, flip-opposite}
+use Rattle.matching.proofs.Laws.Mirror.{length-flip, flip-opposite}
 use Rattle.matching.proofs.Writing.{flat_append, flat_one}
 
 -- ---- the loop: the entries short of i and from e on are turned, those between are as they were
@@ -21,16 +21,6 @@ pub record Swapped (l₀ : List ℕ) (size n : ℕ) (l : List ℕ) (i e : ℕ) :
   pub low : (k j : ℕ) → k + j + 1 ≡ size → k < i → at l k ≡ n + 1 - at l₀ j
   pub high : (k j : ℕ) → k + j + 1 ≡ size → e ≤ k → at l k ≡ n + 1 - at l₀ j
   pub rest : (k : ℕ) → size ≤ k → at l k ≡ at l₀ k
-
-pub swapped_none : (l : List ℕ) (size n : ℕ) → Swapped l size n l 0 size
-swapped_none l size n = record {
-  long = refl;
-  sum = omega arith;
-  between = λ k j q a b. refl;
-  low = λ k j q h. absurd (omega arith);
-  high = λ k j q h. absurd (omega arith);
-  rest = λ k h. refl;
-}
 
 module _ {l₀ : List ℕ} {size n : ℕ} {l : List ℕ} {i e : ℕ} (S : Swapped l₀ size n l i e) (room : size ≤ length l₀) (h : i < e) {x y : ℕ}
     (ex : x ≡ n + 1 - at l i) (ey : y ≡ n + 1 - at l (e - 1)) where

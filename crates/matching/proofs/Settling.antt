@@ -3,13 +3,12 @@
 use Prim.Native.Nat.{ℕ, ◌+◌, ◌-◌, ◌≤◌, ◌<◌}
 use mathlib.Core.List.{List}
 use mathlib.Core.Bool.{true, false, true≢false}
-use mathlib.Core.Path.{◌≡◌, refl, sym, ap, ◌∙◌}
+use mathlib.Core.Path.{◌≡◌, refl, sym, ◌∙◌}
 use native.Mathlib.Decide.{ℕ_discrete, dec_lt}
 use native.Mathlib.Omega.{arith}
-use lib.ListN.{length, take, set, length-set}
-use lib.Seq.{get_or-take, get_or-set_other, length-take-le}
+use lib.ListN.{length, take, set}
+use lib.Seq.{get_or-take, length-take-le}
 use Rattle.pattern.specs.declared.Pattern.{Pattern}
-use Rattle.basics.specs.Laws.Arrays.{set_more}
 use Rattle.matching.specs.declared.search.Answer.{Answer}
 use Rattle.matching.specs.Occurrence.{View, OccursIn, at}
 use Rattle.matching.specs.Rows.{Before, NotAfter}
@@ -115,12 +114,6 @@ module _ (f : Pattern) (v : View) {marks : List ℕ} {s : Answer} (S : Started f
         none = λ g q O P. A.none g q O (up q P);
       }
 
-  pub unanswered : {a : Answer} → a.found ≡ false → s.found ≡ false → Answered f v marks a
-  unfolding Before
-  unanswered {a} d e =
-      let no_such : a.found ≡ true → ⊥ = λ g. true≢false (sym g ∙ d) in
-      record { some = λ g. absurd (no_such g); size = λ g. absurd (no_such g); rest = λ g. absurd (no_such g); none = λ _ q O P. S.none e q P (λ k h. omega (arith, (O.word k h).inside.1)) }
-
 -- ---- the row just past the marks
 
 -- the first j places are raised by one, the others as they were
@@ -130,26 +123,10 @@ pub record Starting (m : ℕ) (p₀ p : List ℕ) (j : ℕ) : Type 0 where
   pub past : (k : ℕ) → k < j → at p k ≡ at p₀ k + 1
   pub rest : (k : ℕ) → j ≤ k → at p k ≡ at p₀ k
 
-pub starting_begin : (m : ℕ) (p : List ℕ) → Starting m p p 0
-starting_begin m p = record { within = omega arith; size = refl; past = λ k h. absurd (omega arith); rest = λ k _. refl }
-
 module _ {m : ℕ} {p₀ p : List ℕ} {j : ℕ} (S : Starting m p₀ p j) where
-  pub starting_more : j < m → m ≤ length p₀ → Starting m p₀ (set p j (at p j + 1)) (j + 1)
-  starting_more h room =
-      let z : j < length p = omega (arith, S.size) in
-      record {
-        within = omega arith;
-        size = length-set p j _ ∙ S.size;
-        past = set_more 0 (λ k x. x ≡ at p₀ k + 1) p j _ z S.past (ap (λ (x : ℕ). x + 1) (S.rest j (omega arith)));
-        rest = λ k l. get_or-set_other p j k _ 0 (λ q. omega arith) ∙ S.rest k (omega arith);
-      }
-
   -- a mark at the text's end leaves nothing past it
   pub started_none : {n : ℕ} {a : Answer} → j < m → n ≤ at p j → a.found ≡ false → Started m n p₀ a
   unfolding Before
   started_none {a = a} l h e =
       let no_such : a.found ≡ true → ⊥ = λ g. true≢false (sym g ∙ e) in
       record { past = λ g. absurd (no_such g); rest = λ g. absurd (no_such g); none = λ _ q past inside. omega (arith, S.rest j (omega arith), past j l, inside j l) }
-
-  pub started : {n : ℕ} → m ≤ j → Started m n p₀ (record { found = true; places = p })
-  started h = record { past = λ _ k l. S.past k (omega arith); rest = λ _ k l. S.rest k (omega (arith, S.within)); none = λ e. absurd (true≢false e) }

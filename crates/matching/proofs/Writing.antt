@@ -18,7 +18,7 @@ use Rattle.matching.specs.Steps.Settling.{Ready, Answered}
 use Rattle.basics.specs.Laws.Collections.{every_map}
 use Rattle.basics.specs.Laws.Written.{length-flat}
 use Rattle.basics.specs.Laws.Lending.{row-pasted}
-use Rattle.matching.specs.Laws.Greedy.{run-hits}
+use Rattle.matching.proofs.Laws.Greedy.{run-hits}
 use Rattle.matching.proofs.Finding.{Counted, counted_begin, counted_more, counted_all, counted_within}
 
 -- ---- rows in a flat list

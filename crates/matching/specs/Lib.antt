@@ -1,5 +1,5 @@
 -- The meanings, in the order of document 004's Definitions 3 to 6. `Branches` and `Spans` say the occurrences as the counting
--- finds them. `Laws` has what follows, `Steps` the contracts inside.
+-- finds them. `Steps` has the contracts inside; what follows is in proofs/Laws.
 pub mod Occurrence
 pub mod Occurrences
 pub mod Rows
@@ -17,4 +17,3 @@ pub mod ExcludingTexts
 pub mod ConditionTexts
 pub mod Joining
 pub mod Steps
-pub mod Laws

@@ -1,23 +1,18 @@
--- The two lists as they are printed: the entries of their rows, equally many. Assumes nothing.
+-- The two lists as they are printed: the entries of their rows, equally many.
 use Prim.Native.Nat.{ℕ, ◌-◌, ◌*◌, ◌≤◌}
 use native.Mathlib.Omega.{arith}
 use native.Mathlib.Nat.{sub-zero}
-use mathlib.Core.Path.{◌≡◌, refl, sym, ap, ◌∙◌}
-use mathlib.Core.Bool.{Bool, true, false}
+use mathlib.Core.Path.{◌≡◌, sym, ap, ◌∙◌}
+use mathlib.Core.Bool.{false}
 use mathlib.Core.List.{List}
 use lib.Dec.{ltb}
 use lib.ListN.{length, take, drop, replicate, length-replicate}
 use lib.Seq.{take_at}
-use borrow.Author.Tests.{ltb-false, le-ltb}
+use borrow.Author.Tests.{le-ltb}
 use Rattle.pattern.specs.declared.Pattern.{Pattern}
 use Rattle.pattern.specs.declared.refusal.Refusal.{Refusal}
-use Rattle.pattern.specs.declared.refusal.Refusal.TheVariants.{ListLength}
-use Rattle.pattern.specs.declared.refusal.Verdict.{Verdict}
-use Rattle.pattern.specs.declared.refusal.Verdict.TheVariants.{Accepted, Refused}
 use Rattle.pattern.specs.Laws.Accepting.{input-accepted}
-use Rattle.basics.specs.Choice.{pick}
-use Rattle.pattern.specs.Tests.{input_verdict}
-use Rattle.matching.specs.Answers.{listed, filled, front_listed, front_written, back_written, Best}
+use Rattle.matching.specs.Answers.{front_listed, back_written, Best}
 use Rattle.basics.specs.Collections.{Every}
 use Rattle.basics.specs.Laws.Collections.{every_map}
 use Rattle.basics.specs.Laws.Written.{length-flat}
@@ -40,40 +35,6 @@ entries_first : (m : ℕ) (R : List (List ℕ)) (l : List ℕ) (n : ℕ) → len
 entries_first m R l n e = take_at (flat R) (drop (length R * m) l) n e
 
 -- ---- the front list
-
-record Found (v : Verdict) (m : ℕ) (R : List (List ℕ)) (l : List ℕ) (rows : ℕ) : Type 0 where
-  accepted : v ≡ Accepted
-  count : rows ≡ length R
-  room : rows * m ≤ length l
-  holds : filled v m R l ≡ written m R l
-
-found : (v : Verdict) (m : ℕ) (R : List (List ℕ)) (l : List ℕ) (rows : ℕ) → listed v m R (length l) ≡ Rows rows → Found v m R l rows
-found (Refused why) m R l rows e = let z : ◌≡◌ {A = ℕ} 0 1 = cc in absurd (omega arith)
-found Accepted m R l rows e = go (ltb (length l) (length R * m)) refl e
-  where
-    go : (x : Bool) → ltb (length l) (length R * m) ≡ x → pick x (NotListed (ListLength (length R))) (Rows (length R)) ≡ Rows rows → Found Accepted m R l rows
-    go true b q = let z : ◌≡◌ {A = ℕ} 0 1 = cc in absurd (omega arith)
-    go false b q =
-        let n : rows ≡ length R = cc in
-        record {
-          accepted = refl;
-          count = n;
-          room = rw n (ltb-false (length l) (length R * m) b);
-          holds = rw b;
-        }
-
-front_of : (f : Pattern) (t l : List ℕ) (rows : ℕ) {after : List ℕ} → length l ≡ 16000 → Best f t
-    → front_listed f t (length l) ≡ Rows rows → after ≡ front_written f t l → Fronted f t rows (take (rows * f.count - 0) after)
-front_of f t l rows {after} size best answer e =
-    let n = rows * f.count in
-    let r = found (input_verdict f (length t)) f.count (leftmost f t) l rows answer in
-    let s : length (flat (leftmost f t)) ≡ n = entries f t (best r.accepted).front.occur ∙ ap (λ (k : ℕ). k * f.count) (sym r.count) in
-    record {
-      accepted = r.accepted;
-      count = r.count;
-      room = omega (arith, r.room);
-      places = ap (λ (k : ℕ). take k after) (sub-zero n) ∙ ap (take n) (e ∙ r.holds) ∙ entries_first f.count (leftmost f t) l n s;
-    }
 
 report_of : (f : Pattern) (t l : List ℕ) {a : Listed} → length l ≡ 16000 → front_listed f t (length l) ≡ a → after_lists a f t ≡ search_report f t
 unfolding search_report
@@ -126,10 +87,6 @@ list_refused f t e = report_of f t new new_size e
 -- where there is none, the tally decides
 pub list-found : (f : Pattern) (t : List ℕ) {rows : ℕ} → front_listed f t (length new) ≡ Rows rows → after_tally (tallied f t) f t ≡ search_report f t
 list-found f t e = report_of f t new new_size e
-
-pub fronted : (f : Pattern) (t : List ℕ) {rows : ℕ} {after : List ℕ} → Best f t → front_listed f t (length new) ≡ Rows rows
-    → after ≡ front_written f t new → Fronted f t rows (take (rows * f.count - 0) after)
-fronted f t {rows} best answer e = front_of f t new rows new_size best answer e
 
 pub backed : {f : Pattern} {t front : List ℕ} {rows : ℕ} {after : List ℕ} → Best f t → Fronted f t rows front → after ≡ back_written f t new → Backed f t front after rows
 backed best r e = back_of new new_size best r e

@@ -1,4 +1,4 @@
--- What is read, as the specification has it. Assumes nothing.
+-- What is read, as the specification has it.
 use Prim.Native.Nat.{ℕ, ◌+◌, ◌-◌, ◌≤◌, ◌<◌, min}
 use native.Mathlib.Omega.{arith}
 use native.Mathlib.Nat.{sub-zero}

@@ -1,4 +1,4 @@
--- Lines value by value, and entry by entry. Assumes nothing.
+-- Lines value by value, and entry by entry.
 use Prim.Native.Nat.{ℕ, ◌+◌}
 use native.Mathlib.Numerals.{add-one}
 use mathlib.Core.Path.{◌≡◌, refl, sym, ap}

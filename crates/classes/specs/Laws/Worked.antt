@@ -15,9 +15,9 @@ use Rattle.matching.specs.Lists.{onward, follow}
 use Rattle.matching.specs.Branches.{stands, branches}
 use Rattle.matching.specs.Spans.{distance, width, next_end, horizon, limit, least}
 use Rattle.matching.specs.Texts.{one_word, pattern_of, Results}
-use Rattle.matching.specs.Laws.Branches.{tree, forest}
-use Rattle.matching.specs.Laws.Cover.{occurrences_each}
-use Rattle.matching.specs.Laws.Texts.{results}
+use Rattle.matching.proofs.Laws.Branches.{tree, forest}
+use Rattle.matching.proofs.Laws.Cover.{occurrences_each}
+use Rattle.matching.proofs.Laws.Texts.{results}
 use Rattle.classes.specs.Trees.{meets}
 use Rattle.classes.specs.Grammar.{Grammar, alternative}
 use Rattle.classes.specs.Recoding.{recoded_words}

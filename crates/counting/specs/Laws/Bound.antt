@@ -10,7 +10,7 @@ use Rattle.basics.specs.Laws.Sums.{total-bound}
 use Rattle.basics.specs.Laws.Choice.{when-bound}
 use Rattle.matching.specs.Branches.{ways}
 use Rattle.matching.specs.Spans.{distance, limit, least}
-use Rattle.matching.specs.Laws.Cover.{tally_each}
+use Rattle.matching.proofs.Laws.Cover.{tally_each}
 use Rattle.counting.specs.Laws.Inputs.{gaps}
 use Rattle.counting.specs.Steps.Inputs.{Input}
 use Rattle.matching.specs.Occurrences.{occurrences_in}

@@ -7,7 +7,7 @@ use Rattle.pattern.specs.Patterns.{slot_at}
 use Rattle.pattern.specs.Tests.{input_verdict}
 use Rattle.pattern.specs.Laws.Accepting.{input-accepted}
 use Rattle.matching.specs.Occurrence.{plain}
-use Rattle.matching.specs.Laws.Sentences.{accepted_no_end}
+use Rattle.matching.proofs.Laws.Sentences.{accepted_no_end}
 use Rattle.counting.specs.Steps.Inputs.{Input}
 
 pub passed : {f : Pattern} (t : List ℕ) → input_verdict f (length t) ≡ Fine → Input f (plain f t)

@@ -17,9 +17,9 @@ use Rattle.pattern.specs.Laws.Accepting.{input-accepted}
 use Rattle.matching.specs.Occurrence.{plain, at, Occurs}
 use Rattle.matching.specs.Occurrences.{occurrences, starting_at}
 use Rattle.matching.specs.Joining.{shifted}
-use Rattle.matching.specs.Laws.Enumeration.{occurrences-occur}
-use Rattle.matching.specs.Laws.Joining.{joined-input, joined_texts}
-use Rattle.matching.specs.Laws.Pieces.{at_shifted}
+use Rattle.matching.proofs.Laws.Enumeration.{occurrences-occur}
+use Rattle.matching.proofs.Laws.Joining.{joined-input, joined_texts}
+use Rattle.matching.proofs.Laws.Pieces.{at_shifted}
 use Rattle.counting.specs.declared.total.Tallied.TheVariants.{Total}
 use Rattle.counting.specs.Starts.{starts_at, column}
 use Rattle.counting.specs.Halves.{high, low, halves}

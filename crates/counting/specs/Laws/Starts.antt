@@ -15,8 +15,8 @@ use Rattle.pattern.specs.Tests.{input_verdict}
 use Rattle.pattern.specs.Laws.Accepting.{input-accepted}
 use Rattle.matching.specs.Occurrence.{plain}
 use Rattle.matching.specs.Occurrences.{occurrences, starting_in}
-use Rattle.matching.specs.Laws.Cover.{tally-places}
-use Rattle.matching.specs.Laws.Enumeration.{each_length, each_at, places-sum}
+use Rattle.matching.proofs.Laws.Cover.{tally-places}
+use Rattle.matching.proofs.Laws.Enumeration.{each_length, each_at, places-sum}
 use Rattle.counting.specs.declared.starting.Started.{Started}
 use Rattle.counting.specs.declared.starting.Started.TheVariants.{Words}
 use Rattle.counting.specs.declared.starting.Started.TheVariants.{Refused as Unstarted}

@@ -4,7 +4,7 @@ use Rattle.pattern.specs.declared.Pattern.{Pattern}
 use Rattle.pattern.specs.Stated.{SameStated}
 use Rattle.matching.specs.Occurrences.{places, starting_at}
 use Rattle.matching.specs.Answers.{filled}
-use Rattle.matching.specs.Laws.Stated.{answers_same}
+use Rattle.matching.proofs.Laws.Stated.{answers_same}
 use Rattle.counting.specs.Starts.{column}
 use Rattle.counting.specs.Halves.{halves}
 use Rattle.counting.specs.Answers.{too_many, tallied_after, tallied, listed_after, all_listed, all_written, started_after, started, column_by, starts_written}

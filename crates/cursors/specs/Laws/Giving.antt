@@ -12,7 +12,7 @@ use Rattle.matching.specs.declared.searches.Outcome.TheVariants.{Found, Absent, 
 use Rattle.matching.specs.Occurrence.{plain}
 use Rattle.matching.specs.Searches.{earliest, Earliest}
 use Rattle.matching.specs.Answers.{sixteen}
-use Rattle.matching.specs.Laws.Extremes.{earliest_some}
+use Rattle.matching.proofs.Laws.Extremes.{earliest_some}
 use Rattle.cursors.specs.declared.Cursors.{Cursors}
 use Rattle.cursors.specs.declared.Client.{Client}
 use Rattle.cursors.specs.Machine.{client_of, moved, client_verdict, next_verdict, first_marks, next_row, served_by, next_served, rewound_by, rewound}

@@ -4,7 +4,7 @@ use Rattle.pattern.specs.declared.Pattern.{Pattern}
 use Rattle.pattern.specs.Stated.{SameStated}
 use Rattle.pattern.specs.Laws.Stated.{input_same}
 use Rattle.pattern.specs.Laws.Agree.{same_agree}
-use Rattle.matching.specs.Laws.Stated.{agree_occurrences}
+use Rattle.matching.proofs.Laws.Stated.{agree_occurrences}
 use Rattle.cursors.specs.declared.Cursors.{Cursors}
 use Rattle.cursors.specs.Machine.{next_verdict, next_served}
 

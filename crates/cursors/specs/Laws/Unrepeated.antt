@@ -12,9 +12,9 @@ use Rattle.matching.specs.Occurrence.{plain, Occurs}
 use Rattle.matching.specs.Rows.{level, Before, NotAfter}
 use Rattle.matching.specs.Nonoverlap.{Nonoverlapping}
 use Rattle.matching.specs.Lists.{leftmost}
-use Rattle.matching.specs.Laws.Direction.{forwards}
-use Rattle.matching.specs.Laws.Greedy.{Run, start, step as further, run-hits, run_chain, chain_pairwise, run_split}
-use Rattle.matching.specs.Laws.Extremes.{earliest_some, leftmost-front}
+use Rattle.matching.proofs.Laws.Direction.{forwards}
+use Rattle.matching.proofs.Laws.Greedy.{Run, start, step as further, run-hits, run_chain, chain_pairwise, run_split}
+use Rattle.matching.proofs.Laws.Extremes.{earliest_some, leftmost-front}
 use Rattle.cursors.specs.declared.Client.{Client}
 use Rattle.cursors.specs.declared.Cursors.{Cursors}
 use Rattle.cursors.specs.Machine.{fresh, client_of, next_verdict, first_marks, next_row, rewound}

@@ -7,8 +7,8 @@ use Rattle.basics.specs.Choice.{pick}
 use Rattle.matching.specs.Occurrences.{word, gap, span, sentence, occurs_in}
 use Rattle.matching.specs.Answers.{row_verdict}
 use Rattle.matching.specs.ConditionTexts.{pattern-conditions, text-conditions, Conditions}
-use Rattle.matching.specs.Laws.ConditionTexts.{condition_texts}
-use Rattle.matching.specs.Laws.Ready.{row-accepted}
+use Rattle.matching.proofs.Laws.ConditionTexts.{condition_texts}
+use Rattle.matching.proofs.Laws.Ready.{row-accepted}
 use Rattle.excerpts.specs.declared.Tested.{Tested}
 use Rattle.excerpts.specs.declared.Tested.TheVariants.{Yes, No}
 use Rattle.excerpts.specs.Answers.{is_occurrence}

@@ -7,8 +7,8 @@ use Rattle.pattern.specs.declared.refusal.Verdict.TheVariants.{Accepted, Refused
 use Rattle.matching.specs.Occurrence.{plain, Occurs, at}
 use Rattle.matching.specs.Occurrences.{occurs}
 use Rattle.matching.specs.Answers.{row_verdict}
-use Rattle.matching.specs.Laws.Ready.{RowAccepted, row-accepted}
-use Rattle.matching.specs.Laws.Tests.{occurs_iff}
+use Rattle.matching.proofs.Laws.Ready.{RowAccepted, row-accepted}
+use Rattle.matching.proofs.Laws.Tests.{occurs_iff}
 use Rattle.excerpts.specs.declared.Tested.{Tested}
 use Rattle.excerpts.specs.declared.Tested.TheVariants.{Yes, No, Refused as NotTested}
 use Rattle.excerpts.specs.Answers.{tested_by, is_occurrence, if_occurrence, excerpt_of}

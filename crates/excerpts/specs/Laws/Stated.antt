@@ -4,7 +4,7 @@ use Rattle.std.specs.Prelude.{ℕ, ◌≡◌, List}
 use Rattle.pattern.specs.declared.Pattern.{Pattern}
 use Rattle.pattern.specs.Stated.{SameStated}
 use Rattle.pattern.specs.Laws.Agree.{same_agree}
-use Rattle.matching.specs.Laws.Stated.{agree_occurs, row_same}
+use Rattle.matching.proofs.Laws.Stated.{agree_occurs, row_same}
 use Rattle.excerpts.specs.Answers.{is_occurrence, excerpt_of, excerpt_start}
 
 module _ {f g : Pattern} (same : SameStated f g) (t row : List ℕ) where

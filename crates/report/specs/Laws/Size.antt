@@ -13,7 +13,7 @@ use Rattle.pattern.specs.declared.refusal.Verdict.{Verdict}
 use Rattle.pattern.specs.declared.refusal.Verdict.TheVariants.{Accepted, Refused}
 use Rattle.matching.specs.Answers.{front_listed}
 use Rattle.basics.specs.Collections.{Every, none, more}
-use Rattle.matching.specs.Laws.Largest.{largest}
+use Rattle.matching.proofs.Laws.Largest.{largest}
 use Rattle.matching.specs.Lists.{leftmost, rightmost}
 use Rattle.matching.specs.Occurrence.{Occurs}
 use Rattle.basics.specs.Written.{flat}

@@ -1,6 +1,6 @@
 -- `place_fits` meets its contract: the word is looked at only where the place is in the text.
 use Rattle.std.proofs.Common.{◌≤◌, length, sym, arith}
-use Rattle.matching.specs.Laws.Tests.{within_iff}
+use Rattle.matching.proofs.Laws.Tests.{within_iff}
 use Rattle.excerpts.proofs.conditions.place_fits.Goals as goal
 use Rattle.excerpts.proofs.conditions.place_fits.Goals.{Then-within}
 

@@ -1,7 +1,5 @@
--- `lay_out` meets its contract. The invariant: the slots below j are laid out.
-use native.Mathlib.Omega.{arith}
 use Prim.Native.Nat.{◌-◌}
-use Rattle.matching.proofs.Laying.{Laying, laying_begin, laying_more, laying_end}
+use Rattle.matching.proofs.Laying.{Laying}
 use Rattle.matching.proofs.laid.lay_out.Given as goal
 
 abbrev pub invariant-loop-j : goal.invariant-loop-j

@@ -1,13 +1,7 @@
--- `count_rows` meets its contract. The invariant: the k rows found so far are where the greedy list begins.
-use native.Mathlib.Omega.{arith}
-use Prim.Native.Nat.{◌-◌, ◌≤◌}
-use Rattle.pattern.specs.declared.Pattern.{Pattern}
-use Rattle.matching.specs.Occurrence.{View, at}
-use Rattle.matching.specs.Steps.Laid.{Plan}
-use Rattle.matching.specs.Steps.Settling.{Ready, Answered}
+use Prim.Native.Nat.{◌-◌}
+use Rattle.matching.specs.Occurrence.{at}
 use Rattle.matching.specs.Steps.Turning.{viewed}
-use Rattle.matching.proofs.Laying.{plan}
-use Rattle.matching.proofs.Finding.{Counted, counted_begin, counted_end, counted-few, counted_less, counted_more}
+use Rattle.matching.proofs.Finding.{Counted}
 use Rattle.matching.proofs.lists.count_rows.Given as goal
 
 abbrev pub invariant-loop-k : goal.invariant-loop-k

@@ -1,4 +1,3 @@
--- `write_rows` meets its contract. The invariant: the k rows found so far are written, and a row that is found has room.
 use Prim.Native.Nat.{◌-◌}
 use Rattle.matching.specs.Occurrence.{at}
 use Rattle.matching.specs.Steps.Turning.{viewed}

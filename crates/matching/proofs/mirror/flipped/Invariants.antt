@@ -1,7 +1,6 @@
 -- `flipped` meets its contract. The invariant: the first j places are those of the row from its end.
-use native.Mathlib.Omega.{arith}
 use Prim.Native.Nat.{◌-◌}
-use Rattle.matching.proofs.Turning.{Flipping, flipping_begin, flipping_more, flipping_end}
+use Rattle.matching.proofs.Turning.{Flipping}
 use Rattle.matching.proofs.mirror.flipped.Given as goal
 
 abbrev pub invariant-loop-j : goal.invariant-loop-j

@@ -1,11 +1,6 @@
--- `turned` meets its contract. The invariant: the first j slots are those of the pattern from its end.
-use native.Mathlib.Omega.{arith}
 use Prim.Native.Nat.{ℕ, ◌≤◌, ◌<◌, ◌-◌}
-use mathlib.Core.Path.{◌≡◌, refl}
+use mathlib.Core.Path.{◌≡◌}
 use lib.ListN.{length, get_or}
-use borrow.Author.Count.{below_none}
-use Rattle.matching.proofs.Turning.{turned-slot}
-use Rattle.basics.specs.Laws.Arrays.{set_more}
 use Rattle.matching.specs.Steps.Turning.{TurnedSlot}
 use Rattle.pattern.specs.Patterns.{no_slot}
 use Rattle.matching.proofs.mirror.turned.Given as goal

@@ -1,15 +1,10 @@
--- `first` meets its contract. The invariant: no place from `from` on that was passed has a word that the slot takes.
-use mathlib.Core.Path.{◌≡◌, ◌∙◌}
+use mathlib.Core.Path.{◌≡◌}
 use mathlib.Core.Bool.{true}
-use native.Mathlib.Omega.{arith}
 use Prim.Native.Nat.{ℕ, ◌+◌, ◌≤◌, ◌<◌, ◌-◌}
-use Rattle.matching.proofs.Reading.{first_more, told}
 use Rattle.matching.specs.Steps.Turning.{seen}
 use Rattle.matching.specs.Occurrence.{takes_at}
 use Rattle.pattern.specs.declared.slot.Slot.{Slot}
-use Rattle.pattern.specs.Patterns.{takes}
 use Rattle.pattern.specs.Numbers.{Numbers}
-use Rattle.pattern.specs.Laws.Slots.{numbers_taken}
 use Rattle.matching.proofs.places.first.Given as goal
 
 abbrev pub invariant-loop-p : goal.invariant-loop-p

@@ -1,10 +1,7 @@
 -- `last_end` meets its contract. The invariant: no sentence ends from the place p on and before `to`.
-use Prim.Native.Nat.{ℕ, ◌-◌, ◌≤◌, ◌<◌}
-use native.Mathlib.Decide.{ℕ_discrete}
-use native.Mathlib.Omega.{arith}
-use mathlib.Core.Bool.{Bool, false}
+use Prim.Native.Nat.{ℕ, ◌≤◌, ◌<◌}
+use mathlib.Core.Bool.{false}
 use mathlib.Core.Path.{◌≡◌}
-use Rattle.matching.proofs.Reading.{ended, unended}
 use Rattle.matching.specs.Occurrence.{ends_at}
 use Rattle.matching.specs.Steps.Turning.{seen}
 use Rattle.matching.proofs.places.last_end.Given as goal

@@ -1,17 +1,9 @@
--- `keep` meets its contract. The invariant: no occurrence is left behind, and no sentence ends past the first place and before `from`.
-use Prim.Native.Nat.{ℕ, ◌-◌, ◌≤◌, ◌<◌}
-use native.Mathlib.Omega.{arith}
-use mathlib.Core.Bool.{true}
-use mathlib.Core.List.{List}
-use mathlib.Core.Path.{◌≡◌, refl, sym, ◌∙◌}
-use lib.ListN.{length, set}
-use Rattle.pattern.specs.declared.Pattern.{Pattern}
-use Rattle.matching.specs.Occurrence.{View, at}
+use Prim.Native.Nat.{◌-◌}
+use lib.ListN.{length}
+use Rattle.matching.specs.Occurrence.{at}
 use Rattle.matching.specs.Steps.Turning.{viewed}
-use Rattle.matching.specs.Steps.Settling.{loose, Settled}
-use Rattle.matching.specs.Steps.Laid.{Plan, Raisable, planned}
-use Rattle.matching.proofs.Raising.{placed}
-use Rattle.matching.proofs.Keeping.{settled-found, Keeping, keeping_begin, unkept, last_inside, Looked, kept, keeping_more, keeping_less}
+use Rattle.matching.specs.Steps.Laid.{Plan, planned}
+use Rattle.matching.proofs.Keeping.{Keeping}
 use Rattle.matching.proofs.search.keep.Given as goal
 
 abbrev pub invariant-loop-to : goal.invariant-loop-to

@@ -2,41 +2,30 @@
 use mathlib.Core.Path.{◌≡◌, refl, sym, ◌∙◌}
 use lib.ListN.{length}
 use native.Mathlib.Omega.{arith}
-use Prim.Native.Nat.{◌+◌, ◌*◌, ◌-◌, ◌≤◌, ◌<◌}
-use Rattle.pattern.specs.declared.Pattern.{Pattern}
+use Prim.Native.Nat.{◌≤◌, ◌<◌}
 use Rattle.matching.proofs.Raising.{none, less, placed}
-use Rattle.matching.proofs.Settling.{Calm, calm_begin, calm_same, calm_raise, all_calm, settled, unsettled}
-use Rattle.matching.specs.Occurrence.{View}
-use Rattle.matching.specs.Steps.Turning.{viewed}
-use Rattle.matching.specs.Steps.Settling.{loose, slack}
-use Rattle.matching.specs.Steps.Laid.{Plan, Raisable, planned}
+use Rattle.matching.proofs.Settling.{calm_begin, calm_same, calm_raise, all_calm, settled, unsettled}
 use Rattle.matching.proofs.search.settle.Goals as goal
 use Rattle.matching.proofs.search.settle.Goals.{After-widen, At-loop-calm}
 
 -- the slot has its place in the row
 inside : (c : At-loop-calm) → (c.loop-calm.j < 16) × (length c.loop-calm.p ≡ 16)
-inside c = (omega (arith, ((c.loop-calm.invariant c.requires.plan)).slot, c.requires.plan.ready.few), ((c.loop-calm.invariant c.requires.plan)).rising.size)
-
-same_size : (c : At-loop-calm) → length c.loop-calm.p ≡ length c.args.p.now
-same_size c = ((c.loop-calm.invariant c.requires.plan)).rising.size ∙ sym c.requires.size
+inside c = let s = c.loop-calm.invariant c.requires.plan in (omega (arith, s.slot, c.requires.plan.ready.few), s.rising.size)
 
 -- the place that the visit found is in the text
 in-text : (c : After-widen) → c.visit-q.result ≤ length c.args.text.now
 in-text c = omega (arith, c.if-n-q.false)
 
--- ----
 pub loop-calm-init : goal.loop-calm-init
 loop-calm-init c = λ w. calm_begin _ c.requires.size w.ready.some
 
 pub next-k-requires : goal.next-k-requires
-next-k-requires c = ((c.loop-calm.invariant c.requires.plan)).slot
+next-k-requires c = (c.loop-calm.invariant c.requires.plan).slot
 
 pub visit-q-requires : goal.visit-q-requires
-visit-q-requires c = let s = (c.loop-calm.invariant c.requires.plan) in
+visit-q-requires c =
+    let s = c.loop-calm.invariant c.requires.plan in
     record { plan = c.requires.plan; slot = s.slot; size = s.rising.size; placed = placed s.rising c.requires.placed c.loop-calm.j s.slot }
-
-pub shape_of-p-then-n-q : goal.shape_of-p-then-n-q
-shape_of-p-then-n-q c = same_size (goal.at.shape_of-p-then-n-q c).At-loop-calm
 
 pub returns-then-n-q : goal.returns-then-n-q
 returns-then-n-q c = λ w.
@@ -49,19 +38,10 @@ offset_bounds-p-j c = omega (arith, inside (goal.at.offset_bounds-p-j c).At-loop
 pub bounds-p-j : goal.bounds-p-j
 bounds-p-j c = omega (arith, inside (goal.at.bounds-p-j c).At-loop-calm)
 
-pub overflow_add-calm : goal.overflow_add-calm
-overflow_add-calm c = omega (arith, c.loop-calm-test.true, c.requires.plan.ready.few)
-
-pub loop-calm-smaller-then-q-widen : goal.loop-calm-smaller-then-q-widen
-loop-calm-smaller-then-q-widen c = omega (arith, c.loop-calm-test.true)
-
 pub loop-calm-preserved-then-q-widen : goal.loop-calm-preserved-then-q-widen
 loop-calm-preserved-then-q-widen c = λ w.
     let same = c.if-q-widen.true ∙ c.widen.ensures.0 in
     calm_same (c.loop-calm.invariant w) c.next-k.ensures (c.visit-q.ensures w) (in-text (goal.at.loop-calm-preserved-then-q-widen c).After-widen) c.loop-calm-test.true same
-
-pub overflow_cast-p : goal.overflow_cast-p
-overflow_cast-p c = omega (arith, in-text (goal.at.overflow_cast-p c).After-widen, c.requires.plan.ready.short)
 
 pub offset_bounds-p-j-else-q-widen : goal.offset_bounds-p-j-else-q-widen
 offset_bounds-p-j-else-q-widen c = omega (arith, inside (goal.at.offset_bounds-p-j-else-q-widen c).At-loop-calm)
@@ -70,17 +50,15 @@ pub bounds-p-j-else-q-widen : goal.bounds-p-j-else-q-widen
 bounds-p-j-else-q-widen c = omega (arith, inside (goal.at.bounds-p-j-else-q-widen c).At-loop-calm)
 
 pub loop-calm-smaller : goal.loop-calm-smaller
-loop-calm-smaller c = let w = c.requires.plan in
-    let s = (c.loop-calm.invariant c.requires.plan) in
+loop-calm-smaller c =
+    let w = c.requires.plan in
+    let s = c.loop-calm.invariant w in
     let raised = less s.rising (c.visit-q.ensures w) s.slot w.ready (in-text (goal.at.loop-calm-smaller c).After-widen) (λ e. c.if-q-widen.false (e ∙ sym c.widen.ensures.0)) in
     omega (arith, w.ready.few, c.loop-calm-test.true, raised)
 
 pub loop-calm-preserved : goal.loop-calm-preserved
 loop-calm-preserved c = λ w.
     calm_raise (c.loop-calm.invariant w) c.next-k.ensures (c.visit-q.ensures w) (in-text (goal.at.loop-calm-preserved c).After-widen) w.ready.few
-
-pub shape_of-p : goal.shape_of-p
-shape_of-p c = same_size (goal.at.shape_of-p c).At-loop-calm
 
 pub returns : goal.returns
 returns c = λ w.

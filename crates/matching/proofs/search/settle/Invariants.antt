@@ -1,15 +1,9 @@
--- `settle` meets its contract. The invariant: the slots of the last `calm` visits ask no more; a raise leaves less to raise.
-use mathlib.Core.Path.{◌≡◌, refl, sym, ◌∙◌}
 use lib.ListN.{length}
-use native.Mathlib.Omega.{arith}
-use Prim.Native.Nat.{◌+◌, ◌*◌, ◌-◌, ◌≤◌, ◌<◌}
-use Rattle.pattern.specs.declared.Pattern.{Pattern}
-use Rattle.matching.proofs.Raising.{none, less, placed}
-use Rattle.matching.proofs.Settling.{Calm, calm_begin, calm_same, calm_raise, all_calm, settled, unsettled}
-use Rattle.matching.specs.Occurrence.{View}
+use Prim.Native.Nat.{◌+◌, ◌*◌, ◌-◌}
+use Rattle.matching.proofs.Settling.{Calm}
 use Rattle.matching.specs.Steps.Turning.{viewed}
 use Rattle.matching.specs.Steps.Settling.{loose, slack}
-use Rattle.matching.specs.Steps.Laid.{Plan, Raisable, planned}
+use Rattle.matching.specs.Steps.Laid.{Plan, planned}
 use Rattle.matching.proofs.search.settle.Given as goal
 
 abbrev pub invariant-loop-calm : goal.invariant-loop-calm

@@ -1,17 +1,13 @@
 -- `matching::first_after` meets its contract: the tests' verdict decides, then the search's answer is the specification's.
 use native.Mathlib.Omega.{arith}
 use mathlib.Core.Path.{sym, ◌∙◌}
-use Rattle.matching.specs.Laws.Ready.{RowAccepted, row-accepted}
+use Rattle.matching.proofs.Laws.Ready.{RowAccepted, row-accepted}
 use Rattle.matching.proofs.Answering.{copied-spare, first_shown}
 use Rattle.matching.proofs.searches.first_after.Goals as goal
 use Rattle.matching.proofs.searches.first_after.Goals.{In_default}
 
--- `matching::first_after` meets its contract: the tests' verdict decides, then the search's answer is the specification's.
 accepted : (c : In_default) → RowAccepted c.args.pattern c.args.text.now c.args.marks.now
 accepted c = row-accepted (sym c.row_verdict-verdict.ensures ∙ c.in_default.is)
-
-pub returns-in-Refused : goal.returns-in-Refused
-returns-in-Refused c = simp (sym c.row_verdict-verdict.ensures ∙ c.in-Refused.is)
 
 pub row_of-row-requires : goal.row_of-row-requires
 row_of-row-requires c = let a = accepted (goal.at.row_of-row-requires c).In_default in omega (arith, a.size, a.ready.few)

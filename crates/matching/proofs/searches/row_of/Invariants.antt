@@ -1,12 +1,8 @@
 -- `row_of` meets its contract. The invariant: the first j places are the marks, the others 0.
-use native.Mathlib.Omega.{arith}
 use Prim.Native.Nat.{ℕ, ◌≤◌, ◌<◌, ◌-◌}
-use mathlib.Core.Path.{◌≡◌, refl}
+use mathlib.Core.Path.{◌≡◌}
 use lib.ListN.{length}
-use borrow.Author.Count.{below_none}
-use Rattle.basics.specs.Laws.Arrays.{zeros_at, set_more, set_rest}
 use Rattle.matching.specs.Occurrence.{at}
-use Rattle.matching.proofs.Answering.{copied}
 use Rattle.matching.proofs.searches.row_of.Given as goal
 
 abbrev pub invariant-loop-j : goal.invariant-loop-j
