@@ -1,17 +1,8 @@
 -- Sets of class bytes, bit by bit: each operation on the four numbers is one on every class byte. Assumes nothing.
-use Prim.Native.Nat.{ℕ, zero, suc, ◌+◌, ◌*◌, ◌/◌, ◌%◌, ◌^◌, ◌<◌, min, max}
-use mathlib.Core.Path.{◌≡◌, refl, sym, ap, ap₂, ◌∙◌}
-use mathlib.Core.Bool.{Bool, true, false, not, ◌&&◌, ◌||◌, and-eq-true_iff}
-use mathlib.Core.List.{List, [], ◌∷◌}
-use native.Mathlib.Nat.{mod-lt}
-use native.Mathlib.Numerals.{add-one}
-use native.Mathlib.Omega.{arith}
-use lib.ListN.{get_or}
+use Rattle.std.proofs.Common.{◌≡◌, ℕ, zero, suc, ◌+◌, ◌*◌, ◌/◌, ◌%◌, ◌^◌, ◌<◌, min, max, Bool, true, false, not, ◌&&◌, ◌||◌, eqb, List, [], ◌∷◌, get_or, bit_and, bit_or, bit_xor, sym, refl, ap, ◌∙◌, ap₂, mod-lt, add-one, arith, below_none, below_more, eqb-true}
+use mathlib.Core.Bool.{and-eq-true_iff}
 use lib.Arith.{digits_mod}
-use lib.Bits.{bit_and, bit_or, bit_xor, differ, and_step, or_step, xor_step, and_shr, or_shr, xor_shr}
-use lib.Dec.{eqb}
-use borrow.Author.Count.{below_more, below_none}
-use borrow.Author.Tests.{eqb-true}
+use lib.Bits.{differ, and_step, or_step, xor_step, and_shr, or_shr, xor_shr}
 use Rattle.classes.specs.Trees.{Tree, negation, both, either, bit, meets}
 use Rattle.classes.specs.Steps.Sets.{numbers, contains, LetterSet, MetBy, each_number, all, everything, complement, intersection, union}
 use Rattle.classes.specs.declared.sets.ClassSet.{ClassSet}

@@ -1,14 +1,8 @@
 -- Why each return of the readers is right. Assumes nothing.
-use Prim.Native.Nat.{ℕ, suc, ◌+◌, ◌-◌, ◌≤◌, ◌<◌, max}
-use mathlib.Core.Path.{◌≡◌, refl, sym, ◌∙◌, ap, subst}
-use mathlib.Core.Bool.{Bool, true, false, ◌&&◌}
-use mathlib.Core.List.{List, [], ◌∷◌}
-use native.Mathlib.Numerals.{add-one}
-use native.Mathlib.Omega.{arith}
-use lib.ListN.{length, get_or, drop, drop_of_length-le, get_or-eq_default}
-use lib.Seq.{drop-cons, get_or-drop}
-use lib.Dec.{ltb, leb, eqb, leb-zero}
-use borrow.Author.Tests.{le-leb, lt-leb, eq-eqb, ne_eqb, ltb-true, ltb-false, leb-true, leb-false, eqb-true, eqb-false}
+use Rattle.std.proofs.Common.{◌≡◌, ℕ, suc, ◌+◌, ◌-◌, ◌<◌, ◌≤◌, max, Bool, true, false, ◌&&◌, eqb, ltb, leb, List, [], ◌∷◌, length, get_or, drop, sym, refl, ap, ◌∙◌, subst, add-one, arith, drop_of_length-le, get_or-drop, drop-cons, ltb-false, ltb-true, eq-eqb, ne_eqb, eqb-true, le-leb, leb-false, leb-true}
+use lib.ListN.{get_or-eq_default}
+use lib.Dec.{leb-zero}
+use borrow.Author.Tests.{lt-leb, eqb-false}
 use Rattle.basics.specs.Choice.{pick}
 use Rattle.classes.specs.Trees.{Tree, letter, negation, both, either, meets}
 use Rattle.classes.specs.Steps.Reader.{Left, nothing, part, Outer, bracket, State, wants, has, stuck, given, step, wrong, ending}

@@ -1,15 +1,8 @@
 -- What the part that bytes start with says of all of them. Assumes nothing.
-use Prim.Native.Nat.{ℕ, ◌+◌, ◌≤◌, ◌<◌}
-use mathlib.Core.Path.{◌≡◌, refl, ◌∙◌}
-use mathlib.Core.Bool.{Bool, true, false}
-use mathlib.Core.List.{List, ◌∷◌}
-use native.Mathlib.Omega.{arith}
-use lib.ListN.{length, get_or, drop}
-use lib.Dec.{ltb, eqb}
-use borrow.Author.Tests.{ne_eqb, ltb-true, ltb-false, leb-true, leb-false}
+use Rattle.std.proofs.Common.{◌≡◌, ℕ, ◌+◌, ◌<◌, ◌≤◌, Bool, true, false, eqb, ltb, List, ◌∷◌, length, get_or, drop, refl, ◌∙◌, arith, ltb-false, ltb-true, ne_eqb, leb-false, leb-true}
 use Rattle.basics.specs.Choice.{pick}
 use Rattle.classes.specs.Trees.{Tree}
-use Rattle.classes.specs.Judgements.{ungrammatical, nested, accepted}
+use Rattle.classes.specs.Judgements.{too_long, ungrammatical, nested, accepted}
 use Rattle.classes.specs.Steps.Reader.{nothing, whole, has, stuck, step, wrong, expression, ending, reading}
 use Rattle.classes.specs.Steps.Parts.{operand, AlternativeAt, AlternativeRead, alternative_at, no_alternative}
 use Rattle.classes.specs.Steps.Expressions.{whole_part, Judges, is_wrong, is_deep, is_met}
@@ -52,3 +45,8 @@ judges_at {s = s} {i = i} false r e h false q = is_deep (nested h (sound (all_re
 pub judges : {s : List ℕ} {p : Part} → AlternativeRead s 0 8 p → operand s p 124 ≡ 0 → length s ≤ 200 → Judges s (whole_part s p)
 judges {s = s} (alternative_at {i = i} {f = f} r) e h = judges_at f r e h (ltb i (length s)) refl
 judges (no_alternative r) e h = is_wrong (ungrammatical (unread (r whole)))
+
+pub too_many : {s : List ℕ} → 200 < length s → Judges s Wrong
+too_many h = is_wrong (too_long h)
+
+pub ruleset judgements = (too_many, judges)

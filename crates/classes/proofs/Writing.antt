@@ -1,11 +1,6 @@
 -- The recoded words are written one by one. Assumes nothing.
-use Prim.Native.Nat.{ℕ, ◌+◌, ◌/◌, ◌%◌, ◌≤◌, ◌<◌}
-use native.Mathlib.Omega.{arith}
-use mathlib.Core.Path.{◌≡◌, refl, sym, ◌∙◌, ap}
-use mathlib.Core.Bool.{Bool}
-use mathlib.Core.List.{List}
-use lib.ListN.{length, get_or, set, length-set}
-use lib.Seq.{paste, paste-zero}
+use Rattle.std.proofs.Common.{◌≡◌, ℕ, ◌+◌, ◌/◌, ◌%◌, ◌<◌, ◌≤◌, Bool, List, length, get_or, set, sym, ap, ◌∙◌, arith, length-set}
+use lib.Seq.{paste}
 use Rattle.basics.specs.Laws.Arrays.{pasted_more, pasted_all}
 use Rattle.classes.specs.Trees.{Tree, bit, meets}
 use Rattle.classes.specs.Recoding.{recoded_word, recoded_words}
@@ -26,9 +21,6 @@ unfolding contains
 met_at {t} ns classes i c met m e b f = f ∙ sym (m.entry c b) ∙ ap (λ (x : ℕ). meets t x) e
 
 module _ {ns : List ℕ} {code : ℕ} {text classes list : List ℕ} where
-  pub written_none : Written ns code text classes list 0 list
-  written_none = record { within = omega arith; long = refl; content = λ {t} m. paste-zero list 0 (recoded_words t code text classes) }
-
   module _ (h : length classes ≡ length text) where
     pub written_more : {i : ℕ} {after : List ℕ} (c : ℕ) (met : Bool) (w : ℕ) → Written ns code text classes list i after → length text ≤ length list → i < length text
         → c ≡ get_or classes i 0 → c < 256 → met ≡ bit (get_or ns (c / 64) 0) (c % 64) → w ≡ recoded_word met code (get_or text i 0)

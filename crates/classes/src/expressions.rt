@@ -31,6 +31,7 @@ fn whole_part(s: &[u8], p: Part) -> Expression
 }
 
 // What the bytes are: an expression has at most 200 of them, and brackets nested at most 8 deep.
+#[tactic(auto, using(crate::proofs::WholeParts::judgements))]
 pub(crate) fn judge(s: &[u8]) -> Expression
     ensures { Judges s.now result }
 {

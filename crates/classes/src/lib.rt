@@ -20,6 +20,7 @@ pub enum Recoded {
 }
 
 // Writes the text to the start of the output list, with the code for each word whose class byte meets the expression. A 0 stays 0.
+#[tactic(auto, using(crate::proofs::Recodings::refusals))]
 pub fn recode(
     text: &[u16],
     classes: &[u8],

@@ -159,10 +159,3 @@ unfolding val
 blank_new space n h =
     let e = length-replicate {A = ℕ} space 0 in
     record { room = record { high = omega arith; low = omega arith }; zero = λ i. rw (zeros_at space i) }
-
--- two lists that were new have room for a text still
-pub room_new : {n : ℕ} → n ≤ 20000 → {H L : List ℕ} → length H ≡ length {A = ℕ} (replicate 20001 0) → length L ≡ length {A = ℕ} (replicate 20001 0) → Room n H L
-room_new h eh el = let e = length-replicate {A = ℕ} 20001 0 in record { high = omega arith; low = omega arith }
-
-pub long_new : (space : ℕ) → space ≤ length {A = ℕ} (replicate space 0)
-long_new space = omega (arith, length-replicate {A = ℕ} space 0)

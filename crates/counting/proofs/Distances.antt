@@ -1,5 +1,5 @@
 -- The bounds of the gaps, the distances they come to, and whether the span limits bind. Assumes nothing.
-use Rattle.std.proofs.Common.{◌≡◌, ℕ, zero, suc, ◌+◌, ◌-◌, ◌<◌, ◌≤◌, min, Bool, true, ◌&&◌, leb, List, length, get_or, set, replicate, refl, ◌∙◌, arith, length-set, get_or-set_other, get_or-set_same, below_more, leb-true}
+use Rattle.std.proofs.Common.{◌≡◌, ℕ, zero, suc, ◌+◌, ◌-◌, ◌<◌, ◌≤◌, min, Bool, true, ◌&&◌, leb, List, length, get_or, refl, arith, leb-true}
 use mathlib.Core.Bool.{and-eq-true_iff}
 use Rattle.pattern.specs.declared.Pattern.{Pattern}
 use Rattle.pattern.specs.Patterns.{slot_at}
@@ -15,22 +15,6 @@ pub record Bounding (f : Pattern) (wide : Bool) (j : ℕ) (b : List ℕ) : Type 
   pub long : length b ≡ 16
   pub inside : j ≤ f.count
   pub gap : (k : ℕ) → k < j → get_or b k 0 ≡ bound wide (slot_at f k)
-
-pub bounding_begin : {f : Pattern} {wide : Bool} → Bounding f wide 0 (replicate 16 0)
-bounding_begin = record { long = refl; inside = omega arith; gap = λ k h. absurd (omega arith) }
-
-pub bounding_more : {f : Pattern} {wide : Bool} {j : ℕ} {b : List ℕ} → Bounding f wide j b → j < f.count → f.count ≤ 16 → {x : ℕ} → x ≡ bound wide (slot_at f j)
-    → Bounding f wide (j + 1) (set b j x)
-bounding_more {j = j} {b} s h few {x} e =
-    let l = s.long in
-    record {
-      long = simp length-set s.long;
-      inside = omega arith;
-      gap = below_more _ j (λ k y. get_or-set_other b j k x 0 (λ q. omega arith) ∙ s.gap k y) (get_or-set_same b j x 0 (omega arith) ∙ e);
-    }
-
-pub bounded : {f : Pattern} {wide : Bool} {j : ℕ} {b : List ℕ} → Bounding f wide j b → f.count ≤ j → Bounds f wide b
-bounded s h = record { long = s.long; gap = λ k y. s.gap k (omega arith) }
 
 -- ---- distances
 

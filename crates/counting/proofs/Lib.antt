@@ -1,4 +1,3 @@
-pub mod Carry
 pub mod Loops
 pub mod Fitting
 pub mod Closing

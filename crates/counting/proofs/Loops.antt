@@ -106,9 +106,6 @@ pub record Ending (T : List ℕ) (at first n from : ℕ) (H₀ L₀ : List ℕ) 
   pub inside : i ≤ n
   pub row : (k : ℕ) → k < i → val H L k ≡ when (fitted T (at + k) && leb from (first + k + 1)) 1
 
-pub end_begin : {T : List ℕ} {at first n from : ℕ} {H L : List ℕ} → Ending T at first n from H L 0 H L
-end_begin = record { high = refl; low = refl; inside = omega arith; row = λ k h. absurd (omega arith) }
-
 module _ {T : List ℕ} {at first n from : ℕ} {H₀ L₀ : List ℕ} {i : ℕ} {H L : List ℕ} (s : Ending T at first n from H₀ L₀ i H L) where
   pub end_more : Room n H₀ L₀ → i < n → (l : ℕ) → l ≡ when (fitted T (at + i) && leb from (first + i + 1)) 1
       → Ending T at first n from H₀ L₀ (i + 1) (set H i 0) (set L i l)
@@ -146,9 +143,6 @@ pub record Spreading (T : List ℕ) (at low high n m : ℕ) (H₀ L₀ : List �
   pub inside : i ≤ n
   pub done : (k : ℕ) → k < i → val H L k ≡ spread_at T at low high m H₀ L₀ k
   pub todo : (k : ℕ) → i ≤ k → val H L k ≡ val H₀ L₀ k
-
-pub spread_begin : {T : List ℕ} {at low high n m : ℕ} {H L : List ℕ} → Spreading T at low high n m H L 0 H L
-spread_begin = record { long = refl; long' = refl; inside = omega arith; done = λ k h. absurd (omega arith); todo = λ k h. refl }
 
 module _ {T : List ℕ} {at low high n m : ℕ} {H₀ L₀ : List ℕ} {i : ℕ} {H L : List ℕ} (s : Spreading T at low high n m H₀ L₀ i H L) (x : i < n) (fit : n ≤ m) where
   pub spread_more : Room m H₀ L₀ → (h l : ℕ) → h * 2 ^ 64 + l ≡ spread_at T at low high m H₀ L₀ i

@@ -1,5 +1,5 @@
 -- The entries of one slot, filled from the last index to the first. Assumes nothing.
-use Rattle.std.proofs.Common.{◌≡◌, ℕ, ◌+◌, ◌-◌, ◌<◌, ◌≤◌, min, Bool, true, false, ◌&&◌, eqb, leb, List, length, get_or, set, sym, refl, ap, ◌∙◌, arith, length-set, get_or-set_other, get_or-set_same}
+use Rattle.std.proofs.Common.{◌≡◌, ℕ, ◌+◌, ◌-◌, ◌<◌, ◌≤◌, min, Bool, true, false, ◌&&◌, eqb, leb, List, length, get_or, set, sym, ap, ◌∙◌, arith, length-set, get_or-set_other, get_or-set_same}
 use native.Mathlib.Decide.{ℕ_discrete}
 use Rattle.counting.specs.Steps.Tables.{NextAlive, Reached, leads}
 
@@ -24,9 +24,6 @@ pub record Reaching (alive : ℕ → Bool) (n base : ℕ) (N₀ : List ℕ) (i q
   pub next : NextAlive alive n i q
   pub row : (k : ℕ) → i ≤ k → k < n → NextAlive alive n k (get_or N (base + k) 0)
   pub above : (k : ℕ) → base + n < k → get_or N k 0 ≡ get_or N₀ k 0
-
-pub reach_begin : {alive : ℕ → Bool} {n base : ℕ} {N : List ℕ} → n ≤ 20000 → Reaching alive n base N n 65535 N
-reach_begin h = record { long = refl; inside = omega arith; next = least_none h; row = λ k a b. absurd (omega arith); above = λ k a. refl }
 
 module _ {alive : ℕ → Bool} {n base : ℕ} {N₀ : List ℕ} {i q : ℕ} {N : List ℕ} (s : Reaching alive n base N₀ i q N) (pos : 0 < i) (room : base + n < length N₀) where
   stored : {v : ℕ} → NextAlive alive n (i - 1) v → Reaching alive n base N₀ (i - 1) v (set N (base + (i - 1)) v)

@@ -194,6 +194,3 @@ module _ {f : Pattern} {v : View} {w : Window} {T : List ℕ} (fit : Fitted f v 
           ];
         };
       }
-
-pub tabled : {f : Pattern} {v : View} {w : Window} {N : List ℕ} {j r n : ℕ} → Tabling f v w j r n N → j ≤ 0 → Tabled f v w 0 N
-tabled {j = j} c h = let e : 0 ≡ j = omega arith in rw e c.table

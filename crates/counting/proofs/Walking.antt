@@ -22,9 +22,6 @@ pub record Lent (j : ℕ) (row row' : List ℕ) : Type 0 where
 pub lent_begin : {j : ℕ} {row : List ℕ} → length row ≡ 16 → Lent j row row
 lent_begin h = record { long = h; front = refl }
 
-pub lent_slot : {j : ℕ} {row row' : List ℕ} → Lent j row row' → j < 16 → j < length row'
-lent_slot s h = omega (arith, s.long)
-
 module _ {j : ℕ} {row row' : List ℕ} (s : Lent j row row') (p : ℕ) where
   pub lent_set : Lent j row (set row' j p)
   lent_set = record { long = simp length-set s.long; front = take-set-le j row' j p (omega arith) ∙ s.front }

@@ -1,5 +1,5 @@
 -- `counting::column::each` meets its contract. The invariant: the column is done for the places passed.
-use Rattle.std.proofs.Common.{◌<◌, ◌≤◌, ◌∙◌, arith}
+use Rattle.std.proofs.Common.{◌∙◌, arith}
 use Rattle.counting.proofs.Parting.{last_inside, start_run}
 use Rattle.counting.proofs.Columns.{filling_begin, filling_more, filling_skip, column_done}
 use Rattle.counting.proofs.column.each.Goals as goal

@@ -1,10 +1,9 @@
 -- `counting::fits::tabulate` meets its contract. The invariant: the slots passed are marked.
 use Rattle.matching.specs.Occurrence.{plain}
-use Rattle.counting.proofs.Fitting.{FittedBelow, table_begin, table_more, all_fitted}
-use Rattle.std.proofs.Common.{◌-◌, arith, rules}
+use Rattle.counting.proofs.Fitting.{FittedBelow}
+use Rattle.std.proofs.Common.{◌-◌}
 use Rattle.counting.proofs.fits.tabulate.Given as goal
 
--- `counting::fits::tabulate` meets its contract. The invariant: the slots passed are marked.
 abbrev pub invariant-loop-j : goal.invariant-loop-j
 invariant-loop-j l = FittedBelow l.f (plain l.f l.t) l.initial.fits l.j l.fits
 

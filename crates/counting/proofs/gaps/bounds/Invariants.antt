@@ -1,9 +1,8 @@
 -- `counting::gaps::bounds` meets its contract. The invariant: the bounds of the slots passed stand in the array.
-use Rattle.std.proofs.Common.{◌-◌, arith, rules}
-use Rattle.counting.proofs.Distances.{Bounding, bounding_begin, bounding_more, bounded}
+use Rattle.std.proofs.Common.{◌-◌}
+use Rattle.counting.proofs.Distances.{Bounding}
 use Rattle.counting.proofs.gaps.bounds.Given as goal
 
--- `counting::gaps::bounds` meets its contract. The invariant: the bounds of the slots passed stand in the array.
 abbrev pub invariant-loop-j : goal.invariant-loop-j
 invariant-loop-j l = Bounding l.f l.wide l.j l.gaps
 

@@ -32,7 +32,7 @@ given c =
     let k = known ok c.tabulate.ensures (c.horizons.ensures a.pattern) in
     record {
       known = k;
-      room = all_room a.pattern a.text.now a.list.now ok.pattern.some c.count-total.result (c.count-total.ensures k) c.if-total-gt0.false c.if-list-pattern.false;
+      room = all_room a.pattern a.text.now a.list.now ok.pattern.some c.count-total.result (c.count-total.ensures k) (omega arith) c.if-list-pattern.false;
     }
 
 -- ---- what is asked
@@ -52,7 +52,7 @@ returns-then-total-gt0 c =
     let a = c.args in
     let some = (ok at.In_default).pattern.some in
     let b = all_short a.pattern a.text.now a.list.now (accepted at.In_default)
-        (all_wide a.pattern a.text.now a.list.now some c.count-total.result (number at.After-count-total) c.if-total-gt0.true (omega arith)) in
+    (all_wide a.pattern a.text.now a.list.now some c.count-total.result (number at.After-count-total) (omega arith) (omega arith)) in
     record { value = b.0; list_after = b.1 }
 
 pub nonzero_div-list : goal.nonzero_div-list
@@ -64,7 +64,7 @@ returns-then-list-pattern c =
     let a = c.args in
     let some = (ok at.In_default).pattern.some in
     let b = all_short a.pattern a.text.now a.list.now (accepted at.In_default)
-        (all_over a.pattern a.text.now a.list.now some c.count-total.result (number at.After-count-total) c.if-total-gt0.false c.if-list-pattern.true) in
+    (all_over a.pattern a.text.now a.list.now some c.count-total.result (number at.After-count-total) (omega arith) c.if-list-pattern.true) in
     record { value = b.0; list_after = b.1 }
 
 pub put_all-requires : goal.put_all-requires
@@ -77,5 +77,5 @@ returns c =
     let g = given at.Else-list-pattern in
     let some = (ok at.In_default).pattern.some in
     let b = all_fine a.pattern a.text.now a.list.now (accepted at.In_default) g.room
-        (all_rows a.pattern a.text.now a.list.now some c.count-total.result (number at.After-count-total) c.if-total-gt0.false) (c.put_all.ensures g) in
+    (all_rows a.pattern a.text.now a.list.now some c.count-total.result (number at.After-count-total) (omega arith)) (c.put_all.ensures g) in
     record { value = b.0; list_after = b.1 }

@@ -1,5 +1,5 @@
 -- `counting::listing::put_all` meets its contract: either way writes all occurrences.
-use Rattle.std.proofs.Common.{true, List, sym, ◌∙◌, ◌≡◌, ℕ, length}
+use Rattle.std.proofs.Common.{true, List, sym, ◌∙◌, ◌≡◌, ℕ}
 use Rattle.counting.specs.declared.gaps.Outline.{Outline}
 use Rattle.counting.specs.Steps.Plans.{Outlined}
 use Rattle.counting.specs.Steps.Listings.{PutAll, PutWhole, PutEach}

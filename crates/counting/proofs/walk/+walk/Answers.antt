@@ -1,8 +1,8 @@
 -- `counting::walk::walk`, which calls itself, meets its contract. Its measure is the slots that are left.
 -- The loop's invariant: the rows that start at the indexes passed stand in the list, and the row keeps its places before slot j.
-use Rattle.std.proofs.Common.{◌+◌, ◌*◌, ◌<◌, ◌≤◌, arith}
+use Rattle.std.proofs.Common.{◌+◌, ◌<◌, arith}
 use Rattle.counting.proofs.Walking.{lent_begin, lent_set, lent_back}
-use Rattle.counting.proofs.Walking.{walk_begin, going_begin, going_small, going_next, going_room, going_on, going_leaf, child, going_more, going_end}
+use Rattle.counting.proofs.Walking.{going_begin, going_next, going_room, going_on, going_leaf, child, going_more, going_end}
 use Rattle.counting.proofs.walk.+walk.Goals as goal
 
 pub loop-q-init : goal.loop-q-init
@@ -40,8 +40,7 @@ pub walk-rows-requires : goal.walk-rows-requires
 walk-rows-requires t c =
     let w = c.requires.0 in
     let l = c.loop-q in
-    let inner : c.args.j + 1 < c.args.m = omega (arith, c.if-j-m.false, w.slot) in
-    (
+    let inner : c.args.j + 1 < c.args.m = omega (arith, c.if-j-m.false, w.slot) in (
       omega arith,
       (
         child (l.invariant.going w) c.loop-q-test.true inner (omega (arith, c.widen.ensures.0)) (omega (arith, c.widen-else-j-m.ensures.0)) (omega arith),

