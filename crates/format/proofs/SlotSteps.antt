@@ -5,7 +5,6 @@ use mathlib.Core.List.{List, [], ◌∷◌, map}
 use mathlib.Core.Path.{◌≡◌, refl, sym}
 use lib.ListN.{length, get_or, take, drop, get_or-map}
 use lib.Seq.{drop-length}
-use Rattle.pattern.specs.Patterns.{padded}
 use Rattle.pattern.specs.declared.slot.Slot.{Slot}
 use Rattle.format.specs.Bytes.{decimal, lines, parts, value}
 use Rattle.format.specs.Patterns.{made_slot, read_slot}
@@ -32,19 +31,6 @@ module _ (c : Columns) {s : List ℕ} {at : ℕ} {l : Line} where
 
 abbrev pub eight : List ℕ → List ℕ
 eight ws = get_or ws 0 0 ∷ get_or ws 1 0 ∷ get_or ws 2 0 ∷ get_or ws 3 0 ∷ get_or ws 4 0 ∷ get_or ws 5 0 ∷ get_or ws 6 0 ∷ get_or ws 7 0 ∷ []
-
-pub eight_padded : (ws : List ℕ) → eight ws ≡ padded ws
-eight_padded [] = refl
-eight_padded (a ∷ []) = refl
-eight_padded (a ∷ (b ∷ [])) = refl
-eight_padded (a ∷ (b ∷ (c ∷ []))) = refl
-eight_padded (a ∷ (b ∷ (c ∷ (d ∷ [])))) = refl
-eight_padded (a ∷ (b ∷ (c ∷ (d ∷ (e ∷ []))))) = refl
-eight_padded (a ∷ (b ∷ (c ∷ (d ∷ (e ∷ (f ∷ [])))))) = refl
-eight_padded (a ∷ (b ∷ (c ∷ (d ∷ (e ∷ (f ∷ (g ∷ []))))))) = refl
-eight_padded (a ∷ (b ∷ (c ∷ (d ∷ (e ∷ (f ∷ (g ∷ (i ∷ ws)))))))) =
-    let z : 8 - length (a ∷ b ∷ c ∷ d ∷ e ∷ f ∷ g ∷ i ∷ ws) ≡ 0 = omega arith in
-    rw z
 
 pub eight_at : (ws : List ℕ) (i : ℕ) → i < 8 → get_or (eight ws) i 0 ≡ get_or ws i 0
 eight_at ws zero h = refl

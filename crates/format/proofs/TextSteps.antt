@@ -5,15 +5,14 @@ use native.Mathlib.Omega.{arith}
 use mathlib.Core.Bool.{true, false}
 use mathlib.Core.List.{List, [], ◌∷◌, map}
 use mathlib.Core.Path.{◌≡◌, refl, sym, ◌∙◌, ap}
-use lib.ListN.{length, take, drop, length-drop, length-map}
+use lib.ListN.{length, take, drop, length-map}
 use borrow.Author.Tests.{le-ltb, lt-ltb}
 use Rattle.pattern.specs.declared.refusal.Refusal.{Refusal}
 use Rattle.pattern.specs.declared.refusal.Refusal.TheVariants.{FileLength, Names, TextLength, Values, WordListLength}
 use Rattle.format.specs.Bytes.{decimal, ended, is_number, lines, same}
-use Rattle.format.specs.Steps.ValueLines.{told, word_lines}
+use Rattle.format.specs.Steps.ValueLines.{word_lines}
 use Rattle.format.specs.Names.{word_name}
 use Rattle.format.specs.Texts.{after_name, of_lines, refused, text_contents, text_read, text_written, words}
-use Rattle.format.specs.declared.layout.Layout.{Layout}
 use Rattle.format.specs.declared.layout.Layout.TheVariants.{Right, Wrong}
 use Rattle.format.specs.declared.reader.Line.{Line}
 use Rattle.format.specs.declared.texts.TextRead.{TextRead}
@@ -105,9 +104,6 @@ pub record Named (s : List ℕ) (l : Line) : Type 0 where
 module _ {s : List ℕ} {l : Line} (n : Named s l) (k : ℕ) where
   rest_is : take (length s - l.next) (drop l.next s) ≡ drop l.next s
   rest_is = tail_is s l.next (omega (arith, n.line.inside, n.line.after))
-
-  pub wrong-few : (r : Layout) → told r ≤ length (take (length s - l.next) (drop l.next s)) → r ≡ Wrong k → k ≤ 60000
-  wrong-few r h q = omega (arith, n.small, ap told q, h, ap (λ (t : List ℕ). length t) rest_is, length-drop l.next s)
 
   pub is_wrong_lem : (out : List ℕ) → Wrong k ≡ word_lines (take (length s - l.next) (drop l.next s)) → Done s out (Refused (Values (k + 2))) out
   is_wrong_lem out w = is_refused s out n.small (Values (k + 2)) (text-wrong n.some n.line k n.name (w ∙ ap word_lines rest_is))

@@ -8,10 +8,10 @@ pub returns-then-n-eq0 : goal.returns-then-n-eq0
 returns-then-n-eq0 c = decimal_none c.args.s.now c.if-n-eq0.true
 
 pub returns-then-n-eq1 : goal.returns-then-n-eq1
-returns-then-n-eq1 c = decimal-zero c.args.s.now c.if-s-eq48.true c.if-n-eq1.true
+returns-then-n-eq1 c = decimal-zero c.args.s.now c.if-s-eq48.true (omega arith)
 
 pub returns-then-s-eq48 : goal.returns-then-s-eq48
-returns-then-s-eq48 c = decimal-padded c.args.s.now (omega arith) c.if-s-eq48.true c.if-n-eq1.false
+returns-then-s-eq48 c = decimal-padded c.args.s.now (omega arith) c.if-s-eq48.true (λ e. omega arith)
 
 pub loop-i-init : goal.loop-i-init
 loop-i-init c = (omega arith, omega arith, decimal_more c.args.s.now (omega arith) c.if-s-eq48.false)

@@ -1,6 +1,5 @@
 -- Each test, and what `slot_lines` ensures, tells the definition one step more.
-use Rattle.std.proofs.Common.{drop, sym, ◌∙◌, ap, arith}
-use Rattle.format.specs.Steps.ValueLines.{told}
+use Rattle.std.proofs.Common.{drop, sym, ◌∙◌, arith}
 use Rattle.format.proofs.LineSteps.{found_closed, found_open}
 use Rattle.format.proofs.PatternSteps.{names_3_open, names_3_wrong, slots-count, slots_right, slots-wrong}
 use Rattle.format.proofs.patterns.from_slot_names.Goals as goal
@@ -26,9 +25,6 @@ returns-then-not-slot_names c =
 
 pub slot_lines-found-requires : goal.slot_lines-found-requires
 slot_lines-found-requires c = let k = found_closed c.line_at-line.ensures c.requires c.if-end-next.false in omega arith
-
-pub overflow_add-k : goal.overflow_add-k
-overflow_add-k c = omega (arith, c.slot_lines-found.ensures.1, ap told c.in-Wrong.is)
 
 pub from_slots-requires : goal.from_slots-requires
 from_slots-requires c =

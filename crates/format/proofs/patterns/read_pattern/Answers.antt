@@ -12,12 +12,6 @@ returns-then-end-line c =
     let k = found_open c.line_at-line.ensures (omega arith) c.if-end-line.true in
     c.refuse-then-end-line.ensures ∙ sym (read_small c.args.bytes.now c.if-n-gt-FILE.false ∙ names_open k)
 
-pub slice_bounds-names-count : goal.slice_bounds-names-count
-slice_bounds-names-count c = let k = found_closed c.line_at-line.ensures (omega arith) c.if-end-line.false in omega arith
-
-pub slice_bounds-names-start : goal.slice_bounds-names-start
-slice_bounds-names-start c = let k = found_closed c.line_at-line.ensures (omega arith) c.if-end-line.false in omega arith
-
 pub slice_bounds-names-end : goal.slice_bounds-names-end
 slice_bounds-names-end c = let k = found_closed c.line_at-line.ensures (omega arith) c.if-end-line.false in omega arith
 

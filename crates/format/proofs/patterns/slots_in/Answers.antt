@@ -1,17 +1,9 @@
 -- The invariant: the slots are those so far, with the slots from `at` on after them.
-use Rattle.std.proofs.Common.{◌≡◌, ℕ, List, length, replicate, sym, ◌∙◌, ap, length-set, arith}
-use Rattle.pattern.specs.Patterns.{empty_slot}
-use Rattle.pattern.specs.declared.Pattern.{Pattern}
-use Rattle.pattern.specs.declared.slot.Slot.{Slot}
-use Rattle.pattern.specs.Laws.Filling.{filled, filled_first, filled_next, filled_none, filled_past}
+use Rattle.std.proofs.Common.{◌≡◌, ℕ, length, sym, ◌∙◌, ap, length-set, arith}
+use Rattle.pattern.specs.Laws.Filling.{filled_first, filled_next, filled_none, filled_past}
 use Rattle.format.proofs.LineSteps.{found_closed, found_open}
 use Rattle.format.proofs.SlotSteps.{slots_end, slots_next, slots_open, slots_from}
 use Rattle.format.proofs.patterns.slots_in.Goals as goal
-
-pub loop-at-init : goal.loop-at-init
-loop-at-init c =
-    let e : c.new-empty.result.slots ≡ replicate 16 empty_slot = ap (λ (p : Pattern). p.slots) c.new-empty.ensures.value in
-    (c.requires, ap (λ (l : List Slot). length l) e, ap (λ (l : List Slot). filled l (slots_from c.args.c c.args.s.now c.args.from) 0) (sym e))
 
 pub returns-then-k-ge-SLOTS : goal.returns-then-k-ge-SLOTS
 returns-then-k-ge-SLOTS c = sym (sym (filled_first _) ∙ c.loop-at.invariant.2 ∙ filled_past _ c.loop-at.slots c.loop-at.k (omega arith))

@@ -2,7 +2,7 @@
 use Rattle.std.proofs.Common.{[], refl, sym, ◌∙◌, length-take-le, arith}
 use Rattle.pattern.specs.declared.refusal.Refusal.TheVariants.{Names}
 use Rattle.format.proofs.LineSteps.{found_closed, found_open, lined}
-use Rattle.format.proofs.TextSteps.{Named, all_read, is_long, is_read, is_refused, is_wrong_lem, over_many, text_name, text_none, text_open, too_short, wrong-few}
+use Rattle.format.proofs.TextSteps.{Named, all_read, is_long, is_read, is_refused, is_wrong_lem, over_many, text_name, text_none, text_open, too_short}
 use Rattle.format.proofs.texts.read_text.Goals as goal
 use Rattle.format.proofs.texts.read_text.Goals.{Else-not-same}
 
@@ -46,28 +46,17 @@ slice_bounds-rest-count c = let k = (named (goal.at.slice_bounds-rest-count c).E
 pub slice_bounds-rest-start : goal.slice_bounds-rest-start
 slice_bounds-rest-start c = let k = (named (goal.at.slice_bounds-rest-start c).Else-not-same).line in omega arith
 
-pub slice_bounds-rest-end : goal.slice_bounds-rest-end
-slice_bounds-rest-end c = let k = (named (goal.at.slice_bounds-rest-end c).Else-not-same).line in omega arith
-
-pub overflow_add-result : goal.overflow_add-result
-overflow_add-result c =
-    let b = wrong-few (named (goal.at.overflow_add-result c).Else-not-same) c.in-Wrong.k c.word_lines-found.result c.word_lines-found.ensures.1 c.in-Wrong.is in
-    omega arith
-
 pub returns-then-k-gt-TEXT : goal.returns-then-k-gt-TEXT
 returns-then-k-gt-TEXT c =
     let n = named (goal.at.returns-then-k-gt-TEXT c).Else-not-same in
-    let d = over_many n c.in-Right.k (sym c.in-Right.is ∙ c.word_lines-found.ensures.0) c.args.words.now c.if-k-gt-TEXT.true in
+    let d = over_many n c.in-Right.k (sym c.in-Right.is ∙ c.word_lines-found.ensures.0) c.args.words.now (omega arith) in
     (d.answer, d.content)
 
 pub returns-then-words-k : goal.returns-then-words-k
 returns-then-words-k c =
     let n = named (goal.at.returns-then-words-k c).Else-not-same in
-    let d = too_short n c.in-Right.k (sym c.in-Right.is ∙ c.word_lines-found.ensures.0) c.args.words.now c.if-k-gt-TEXT.false c.if-words-k.true in
+    let d = too_short n c.in-Right.k (sym c.in-Right.is ∙ c.word_lines-found.ensures.0) c.args.words.now (omega arith) (omega arith) in
     (d.answer, d.content)
-
-pub write_words-requires : goal.write_words-requires
-write_words-requires c = (sym c.word_lines-found.ensures.0 ∙ c.in-Right.is, c.if-words-k.false)
 
 pub returns-in-Wrong : goal.returns-in-Wrong
 returns-in-Wrong c =
@@ -78,5 +67,5 @@ returns-in-Wrong c =
 pub returns-else-words-k : goal.returns-else-words-k
 returns-else-words-k c =
     let n = named (goal.at.returns-else-words-k c).Else-not-same in
-    let d = all_read n c.in-Right.k (sym c.in-Right.is ∙ c.word_lines-found.ensures.0) c.args.words.now c.if-k-gt-TEXT.false c.if-words-k.false in
+    let d = all_read n c.in-Right.k (sym c.in-Right.is ∙ c.word_lines-found.ensures.0) c.args.words.now (omega arith) (omega arith) in
     (d.answer, c.write_words.ensures ∙ d.content)

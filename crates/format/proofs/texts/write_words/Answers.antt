@@ -33,14 +33,8 @@ overflow_cast-out c =
     let t = here (goal.at.overflow_cast-out c).After-line_at-line in
     omega (arith, leb-true c.decimal-v.result 65535 (rw c.decimal-v.ensures t.good))
 
-pub offset_bounds-out-n : goal.offset_bounds-out-n
-offset_bounds-out-n c = let t = here (goal.at.offset_bounds-out-n c).After-line_at-line in omega arith
-
 pub bounds-out-n : goal.bounds-out-n
 bounds-out-n c = let t = here (goal.at.bounds-out-n c).After-line_at-line in omega arith
-
-pub overflow_add-n : goal.overflow_add-n
-overflow_add-n c = let t = here (goal.at.overflow_add-n c).After-line_at-line in omega arith
 
 pub loop-at-smaller : goal.loop-at-smaller
 loop-at-smaller c = let t = here (goal.at.loop-at-smaller c).After-line_at-line in omega arith

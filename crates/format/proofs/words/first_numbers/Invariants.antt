@@ -1,4 +1,4 @@
-use Rattle.std.proofs.Common.{◌≡◌, ◌≤◌, map, replicate}
+use Rattle.std.proofs.Common.{◌≡◌, map, replicate}
 use Rattle.std.proofs.Math.Seq.{paste}
 use Rattle.format.specs.Bytes.{parts, value}
 use Rattle.format.proofs.SlotSteps.{eight}
