@@ -1,13 +1,14 @@
 // Reads a pattern file, an empty line and a text file from standard input, and prints their report.
 #![tactic(auto)]
 
-ghost use Rattle.std.specs.Prelude.{◌≡◌, ◌≤◌, length, take};
+ghost use Rattle.std.specs.Prelude.{◌≡◌, ◌≤◌, ◌<◌, false, length, take, IfSome, IsErrOf, OnOk};
+ghost use Rattle.std.specs.Io.KnownBytes.{Appends, Consumes, IsAtEnd, Keeps};
 ghost use Rattle.report.specs.Size.{report_bound};
 ghost use Rattle.report.specs.Report.{reported};
 
-use std::io;
-use std::io::Read;
+use std::io::{Read, Write};
 use std::process::ExitCode;
+use std::{fmt, io};
 
 // What was read: how many bytes, and whether a read failed after them.
 #[derive(Clone, Copy)]
@@ -16,9 +17,27 @@ struct Input {
     failed: bool,
 }
 
+// What a run could not do.
+#[derive(Clone, Copy)]
+enum Failure {
+    Unread,
+    Unwritten,
+}
+
+impl fmt::Display for Failure {
+    fn fmt<W: fmt::Write>(&self, f: &mut fmt::Formatter<W>) -> fmt::Result {
+        match self {
+            Failure::Unread => write!(f, "the input could not be read"),
+            Failure::Unwritten => write!(f, "the report could not be written"),
+        }
+    }
+}
+
 // Reads once to the start of the list: no bytes where the input has ended or the read fails.
 fn read_some<R: Read>(file: &mut R, list: &mut [u8]) -> Input
-    ensures { result.bytes ≤ length list.new }
+    ensures within { result.bytes ≤ length list.new }
+    ensures consumes { Consumes (R.remaining file.old) (R.remaining file.new) (take result.bytes list.new) }
+    ensures ends { result.failed ≡ false → result.bytes ≡ 0 → 0 < length list.old → IsAtEnd (R.remaining file.new) }
 {
     match file.read(list) {
         Ok(bytes) => Input {
@@ -36,6 +55,8 @@ fn read_some<R: Read>(file: &mut R, list: &mut [u8]) -> Input
 fn read_all<R: Read>(file: &mut R, list: &mut [u8]) -> Input
     ensures within { result.bytes ≤ length list.new }
     ensures prefix_len { result.bytes ≡ length (take result.bytes list.new) }
+    ensures consumes { Consumes (R.remaining file.old) (R.remaining file.new) (take result.bytes list.new) }
+    ensures ends { result.failed ≡ false → result.bytes < length list.new → IsAtEnd (R.remaining file.new) }
 {
     let mut done = 0;
     while done < list.len() {
@@ -66,24 +87,39 @@ fn answer(input: &[u8], out: &mut [u8]) -> usize
 }
 
 // Prints the report of the input.
-fn print(rt: &impl Print, input: &[u8]) -> io::Result<()> {
+fn print<W: Write>(output: &mut W, input: &[u8]) -> io::Result<()>
+    ensures { OnOk result (Appends (W.contents output.old) (W.contents output.new) (reported input.now)) }
+{
     let mut out = [0u8; report::REPORT_BOUND];
     let n = answer(input, &mut out);
-    rt.write_all(&out[..n])
+    output.write_all(&out[..n])
 }
 
-// Reads, reports, writes; a read or a write that fails is told on standard error, and the status is then 1.
-fn main(rt: HostRuntime) -> ExitCode {
+// Reads the whole input, or so much of one that is too long that it is refused, and prints its report.
+fn run<R: Read, W: Write>(input: &mut R, output: &mut W) -> Result<(), Failure>
+    ensures reports { OnOk result (IfSome (R.remaining input.old)
+        (λ bytes. Appends (W.contents output.old) (W.contents output.new) (reported bytes))) }
+    ensures silent { IsErrOf result Failure.Unread → Keeps (W.contents output.old) (W.contents output.new) }
+{
     let mut list = [0u8; 65536];
-    let input = read_all(&mut rt.reader(), &mut list);
-    let n = input.bytes;
-    if input.failed {
-        let _ = eprintln!(rt; "bedbloomer: the input could not be read");
-        return ExitCode::FAILURE;
+    let read = read_all(input, &mut list);
+    let n = read.bytes;
+    if read.failed {
+        return Err(Failure::Unread);
     }
-    if print(&rt, &list[..n]).is_err() {
-        let _ = eprintln!(rt; "bedbloomer: the report could not be written");
-        return ExitCode::FAILURE;
+    match print(output, &list[..n]) {
+        Ok(()) => Ok(()),
+        Err(_) => Err(Failure::Unwritten),
     }
-    ExitCode::SUCCESS
+}
+
+// Reads standard input and prints to standard output; what fails is told on standard error, and the status is then 1.
+fn main(rt: HostRuntime) -> ExitCode {
+    match run(&mut rt.reader(), &mut io::writer(&rt)) {
+        Ok(()) => ExitCode::SUCCESS,
+        Err(why) => {
+            let _ = eprintln!(rt; "bedbloomer: {why}");
+            ExitCode::FAILURE
+        }
+    }
 }
