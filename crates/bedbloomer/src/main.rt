@@ -1,7 +1,7 @@
 // Reads a pattern file, an empty line and a text file from standard input, and prints their report.
 #![tactic(auto)]
 
-ghost use Rattle.std.specs.Prelude.{◌≡◌, ◌≤◌, ◌<◌, false, length, take, IfSome, IsErrOf, OnOk};
+ghost use Rattle.std.specs.Prelude.{◌≡◌, ◌≤◌, ◌<◌, length, take, IfOk, IfSome, IsErrOf, OnOk};
 ghost use Rattle.std.specs.Io.KnownBytes.{Appends, Consumes, IsAtEnd, Keeps};
 ghost use Rattle.report.specs.Size.{report_bound};
 ghost use Rattle.report.specs.Report.{reported};
@@ -9,13 +9,6 @@ ghost use Rattle.report.specs.Report.{reported};
 use std::io::{Read, Write};
 use std::process::ExitCode;
 use std::{fmt, io};
-
-// What was read: how many bytes, and whether a read failed after them.
-#[derive(Clone, Copy)]
-struct Input {
-    bytes: usize,
-    failed: bool,
-}
 
 // What a run could not do.
 #[derive(Clone, Copy)]
@@ -33,47 +26,22 @@ impl fmt::Display for Failure {
     }
 }
 
-// Reads once to the start of the list: no bytes where the input has ended or the read fails.
-fn read_some<R: Read>(file: &mut R, list: &mut [u8]) -> Input
-    ensures within { result.bytes ≤ length list.new }
-    ensures consumes { Consumes (R.remaining file.old) (R.remaining file.new) (take result.bytes list.new) }
-    ensures ends { result.failed ≡ false → result.bytes ≡ 0 → 0 < length list.old → IsAtEnd (R.remaining file.new) }
-{
-    match file.read(list) {
-        Ok(bytes) => Input {
-            bytes,
-            failed: false,
-        },
-        Err(_) => Input {
-            bytes: 0,
-            failed: true,
-        },
-    }
-}
-
-// Reads to the start of the list until the input ends, a read fails or the list is full.
-fn read_all<R: Read>(file: &mut R, list: &mut [u8]) -> Input
-    ensures within { result.bytes ≤ length list.new }
-    ensures prefix_len { result.bytes ≡ length (take result.bytes list.new) }
-    ensures consumes { Consumes (R.remaining file.old) (R.remaining file.new) (take result.bytes list.new) }
-    ensures ends { result.failed ≡ false → result.bytes < length list.new → IsAtEnd (R.remaining file.new) }
+// Reads to the start of the list until the input ends or the list is full: how many bytes.
+fn read_all<R: Read>(file: &mut R, list: &mut [u8]) -> io::Result<usize>
+    ensures within { IfOk result (λ n. n ≤ length list.new) }
+    ensures consumes { IfOk result (λ n. Consumes (R.remaining file.old) (R.remaining file.new) (take n list.new)) }
+    ensures ends { IfOk result (λ n. n < length list.new → IsAtEnd (R.remaining file.new)) }
 {
     let mut done = 0;
+    // while: a read says how far it came
     while done < list.len() {
-        let some = read_some(file, &mut list[done..]);
-        let more = some.bytes;
+        let more = file.read(&mut list[done..])?;
         if more == 0 {
-            return Input {
-                bytes: done,
-                failed: some.failed,
-            };
+            return Ok(done);
         }
         done += more;
     }
-    Input {
-        bytes: done,
-        failed: false,
-    }
+    Ok(done)
 }
 
 // Writes the whole report to the start of a list that has room for any.
@@ -102,11 +70,9 @@ fn run<R: Read, W: Write>(input: &mut R, output: &mut W) -> Result<(), Failure>
     ensures silent { IsErrOf result Failure.Unread → Keeps (W.contents output.old) (W.contents output.new) }
 {
     let mut list = [0u8; 65536];
-    let read = read_all(input, &mut list);
-    let n = read.bytes;
-    if read.failed {
+    let Ok(n) = read_all(input, &mut list) else {
         return Err(Failure::Unread);
-    }
+    };
     match print(output, &list[..n]) {
         Ok(()) => Ok(()),
         Err(_) => Err(Failure::Unwritten),

@@ -1,14 +1,12 @@
+// The answers of the library's calls as C reads them, and what each is made from: plain structs of numbers and no enums, as the C interface has
+// them.
 ghost use Rattle.std.specs.Prelude.{◌≡◌};
-ghost use Rattle.bindings.specs.Answers.{refused, value, of_verdict, of_listed, of_tallied, of_started, of_recoded, of_text_read, of_written, of_tested, of_outcome, with_pattern};
+ghost use Rattle.bindings.specs.Answers.{refused, value, of_verdict, of_number, of_tested, of_total, pattern_or, of_input, of_line, of_search, of_excerpt, with_cursors};
 
-use classes::Recoded;
-use counting::{Started, Tallied};
+use counting::halves;
 use cursors::Cursors;
-use excerpts::Tested;
-use format::TextRead;
-use matching::{Listed, Outcome};
-use pattern::{Pattern, Refusal, Verdict};
-use printing::PatternWritten;
+use format::{Input, Line};
+use pattern::{Pattern, Refusal};
 
 // An answer, or a refusal's number with its place; then the value is 0.
 #[repr(C)]
@@ -85,138 +83,198 @@ pub struct ServedTo {
     pub places: [u16; 16],
 }
 
-// A refusal as numbers.
-pub(crate) fn refused(why: Refusal) -> Answer
-    ensures { result ≡ refused why }
-{
-    Answer {
-        number: why.number(),
-        place: why.place(),
-        value: 0,
-    }
-}
-
-// An answer that is not refused.
-pub(crate) fn value(n: u64) -> Answer
-    ensures { result ≡ value n }
-{
-    Answer {
-        number: 0,
-        place: 0,
-        value: n,
-    }
-}
-
-// A verdict as numbers.
-pub(crate) fn of_verdict(verdict: Verdict) -> Answer
-    ensures { result ≡ of_verdict verdict }
-{
-    match verdict {
-        Verdict::Accepted => value(0),
-        Verdict::Refused(why) => refused(why),
-    }
-}
-
-// What a list call answered, as numbers.
-pub(crate) fn of_listed(listed: Listed) -> Answer
-    ensures { result ≡ of_listed listed }
-{
-    match listed {
-        Listed::Rows(rows) => value(rows as u64),
-        Listed::Refused(why) => refused(why),
-    }
-}
-
-// What the tally answered, as numbers.
-pub(crate) fn of_tallied(tallied: Tallied) -> Total
-    ensures { result ≡ of_tallied tallied }
-{
-    match tallied {
-        Tallied::Total { high, low } => Total {
-            number: 0,
-            place: 0,
-            high,
-            low,
-        },
-        Tallied::Refused(why) => Total {
+impl Answer {
+    // A refusal as numbers.
+    fn refused(why: Refusal) -> Self
+        ensures { result ≡ refused why }
+    {
+        Answer {
             number: why.number(),
             place: why.place(),
-            high: 0,
-            low: 0,
-        },
+            value: 0,
+        }
+    }
+
+    // An answer that is not refused.
+    fn value(n: u64) -> Self
+        ensures { result ≡ value n }
+    {
+        Answer {
+            number: 0,
+            place: 0,
+            value: n,
+        }
     }
 }
 
-// What the call for the column answered, as numbers.
-pub(crate) fn of_started(started: Started) -> Answer
-    ensures { result ≡ of_started started }
-{
-    match started {
-        Started::Words(n) => value(n as u64),
-        Started::Refused(why) => refused(why),
+impl From<Result<(), Refusal>> for Answer {
+    ghost from_gives = { λ verdict told. told ≡ of_verdict verdict };
+
+    // A verdict: 0 where it accepts.
+    fn from(verdict: Result<(), Refusal>) -> Self {
+        match verdict {
+            Ok(()) => Answer::value(0),
+            Err(why) => Answer::refused(why),
+        }
     }
 }
 
-// What recoding a text answered, as numbers.
-pub(crate) fn of_recoded(recoded: Recoded) -> Answer
-    ensures { result ≡ of_recoded recoded }
-{
-    match recoded {
-        Recoded::Words(n) => value(n as u64),
-        Recoded::Refused(why) => refused(why),
+impl From<Result<usize, Refusal>> for Answer {
+    ghost from_gives = { λ answer told. told ≡ of_number answer };
+
+    // How many rows, words or bytes.
+    fn from(answer: Result<usize, Refusal>) -> Self {
+        match answer {
+            Ok(n) => Answer::value(n as u64),
+            Err(why) => Answer::refused(why),
+        }
     }
 }
 
-// What reading a text answered, as numbers.
-pub(crate) fn of_text_read(read: TextRead) -> Answer
-    ensures { result ≡ of_text_read read }
-{
-    match read {
-        TextRead::Words(n) => value(n as u64),
-        TextRead::Refused(why) => refused(why),
+impl From<Result<bool, Refusal>> for Answer {
+    ghost from_gives = { λ answer told. told ≡ of_tested answer };
+
+    // 1 for yes, 0 for no.
+    fn from(answer: Result<bool, Refusal>) -> Self {
+        match answer {
+            Ok(yes) => Answer::value(u64::from(yes)),
+            Err(why) => Answer::refused(why),
+        }
     }
 }
 
-// What writing a pattern answered, as numbers.
-pub(crate) fn of_written(written: PatternWritten) -> Answer
-    ensures { result ≡ of_written written }
-{
-    match written {
-        PatternWritten::Bytes(n) => value(n as u64),
-        PatternWritten::Refused(why) => refused(why),
+impl From<Result<u128, Refusal>> for Total {
+    ghost from_gives = { λ answer told. told ≡ of_total answer };
+
+    // The two halves of the number.
+    fn from(answer: Result<u128, Refusal>) -> Self {
+        match answer {
+            Ok(n) => {
+                let (high, low) = halves(n);
+                Total {
+                    number: 0,
+                    place: 0,
+                    high,
+                    low,
+                }
+            }
+            Err(why) => Total {
+                number: why.number(),
+                place: why.place(),
+                high: 0,
+                low: 0,
+            },
+        }
     }
 }
 
-// What the test of a row answered, as numbers.
-pub(crate) fn of_tested(tested: Tested) -> Answer
-    ensures { result ≡ of_tested tested }
-{
-    match tested {
-        Tested::Yes => value(1),
-        Tested::No => value(0),
-        Tested::Refused(why) => refused(why),
+impl Made {
+    // The pattern that was made or, where it was refused, another.
+    pub(crate) fn or(answer: Result<Pattern, Refusal>, other: Pattern) -> Self
+        ensures { result ≡ pattern_or other answer }
+    {
+        match answer {
+            Ok(pattern) => Made {
+                number: 0,
+                place: 0,
+                pattern,
+            },
+            Err(why) => Made {
+                number: why.number(),
+                place: why.place(),
+                pattern: other,
+            },
+        }
     }
 }
 
-// What a search came to, as numbers.
-pub(crate) fn of_outcome(outcome: Outcome) -> Answer
-    ensures { result ≡ of_outcome outcome }
-{
-    match outcome {
-        Outcome::Found => value(1),
-        Outcome::Absent => value(0),
-        Outcome::Refused(why) => refused(why),
+impl From<Result<Input, Refusal>> for ReadBoth {
+    ghost from_gives = { λ answer told. told ≡ of_input answer };
+
+    // Both files that were read or, where one was refused, no words and a new pattern.
+    fn from(answer: Result<Input, Refusal>) -> Self {
+        match answer {
+            Ok(input) => ReadBoth {
+                number: 0,
+                place: 0,
+                words: input.words as u64,
+                pattern: input.pattern,
+            },
+            Err(why) => ReadBoth {
+                number: why.number(),
+                place: why.place(),
+                words: 0,
+                pattern: Pattern::new(),
+            },
+        }
     }
 }
 
-// A verdict as numbers, with the pattern beside it.
-pub(crate) fn with_pattern(verdict: Verdict, pattern: Pattern) -> Made
-    ensures { result ≡ with_pattern verdict pattern }
-{
-    let told = of_verdict(verdict);
-    Made {
-        number: told.number,
-        place: told.place,
-        pattern,
+impl From<Line> for LineEnds {
+    ghost from_gives = { λ line told. told ≡ of_line line };
+
+    // Its two places.
+    fn from(line: Line) -> Self {
+        LineEnds {
+            end: line.end,
+            next: line.next,
+        }
+    }
+}
+
+impl From<Result<Option<[u16; 16]>, Refusal>> for Found {
+    ghost from_gives = { λ answer told. told ≡ of_search answer };
+
+    // 1 and the places, or 0 and places of 0.
+    fn from(answer: Result<Option<[u16; 16]>, Refusal>) -> Self {
+        match answer {
+            Ok(Some(places)) => Found {
+                number: 0,
+                place: 0,
+                found: 1,
+                places,
+            },
+            Ok(None) => Found {
+                number: 0,
+                place: 0,
+                found: 0,
+                places: [0u16; 16],
+            },
+            Err(why) => Found {
+                number: why.number(),
+                place: why.place(),
+                found: 0,
+                places: [0u16; 16],
+            },
+        }
+    }
+}
+
+impl From<(&[u16], usize)> for Excerpted {
+    ghost from_gives = { λ asked told. told ≡ of_excerpt asked.0.now asked.1 };
+
+    // The words' number, and the one at the index, or 0 past their end.
+    fn from(asked: (&[u16], usize)) -> Self {
+        let (words, index) = asked;
+        Excerpted {
+            length: words.len(),
+            word: words.get(index).copied().unwrap_or(0),
+        }
+    }
+}
+
+impl ServedTo {
+    // What a call found beside the state that it leaves.
+    pub(crate) fn with(cursors: Cursors, found: Found) -> Self
+        ensures { result ≡ with_cursors cursors found }
+    {
+        let places = found.places;
+        ServedTo {
+            cursors,
+            number: found.number,
+            place: found.place,
+            found: found.found,
+            places,
+        }
     }
 }

@@ -1,6 +1,6 @@
 ghost use Rattle.bindings.specs.Answers.{RecodesAs};
 
-use crate::answers::{Answer, of_recoded};
+use crate::answers::Answer;
 
 // A text recoded by word class.
 #[unsafe(no_mangle)]
@@ -13,6 +13,5 @@ pub extern "C" fn bedbloomer_recode(
 ) -> Answer
     ensures { RecodesAs text.now classes.now expression.now code out.old result out.new }
 {
-    let recoded = classes::recode(text, classes, expression, code, out);
-    of_recoded(recoded)
+    classes::recode(text, classes, expression, code, out).into()
 }

@@ -3,8 +3,7 @@ ghost use Rattle.excerpts.specs.Answers.{is_occurrence, excerpt_of};
 ghost use Rattle.matching.specs.Answers.{first_after, last_before};
 ghost use Rattle.bindings.specs.Answers.{of_tested, of_search, of_excerpt};
 
-use crate::answers::{Answer, Excerpted, Found, of_outcome, of_tested};
-use matching::Search;
+use crate::answers::{Answer, Excerpted, Found};
 use pattern::Pattern;
 
 // Whether the row is an occurrence: 1 or 0.
@@ -12,7 +11,7 @@ use pattern::Pattern;
 pub extern "C" fn bedbloomer_is_occurrence(pattern: Pattern, text: &[u16], row: &[u16]) -> Answer
     ensures { result ≡ of_tested (is_occurrence pattern text.now row.now) }
 {
-    of_tested(excerpts::is_occurrence(pattern, text, row))
+    excerpts::is_occurrence(pattern, text, row).into()
 }
 
 // How long the row's excerpt (document 01: citation) is, and its word at this index, from 0.
@@ -25,30 +24,7 @@ pub extern "C" fn bedbloomer_excerpt(
 ) -> Excerpted
     ensures { result ≡ of_excerpt (excerpt_of pattern text.now row.now) index }
 {
-    let words = excerpts::excerpt(pattern, text, row);
-    let length = words.len();
-    if index < length {
-        return Excerpted {
-            length,
-            word: words[index],
-        };
-    }
-    Excerpted { length, word: 0 }
-}
-
-// A search's answer as numbers.
-fn of_search(search: Search) -> Found
-    ensures { result ≡ of_search search }
-{
-    let outcome = search.outcome;
-    let told = of_outcome(outcome);
-    let places = search.places;
-    Found {
-        number: told.number,
-        place: told.place,
-        found: told.value,
-        places,
-    }
+    (excerpts::excerpt(pattern, text, row), index).into()
 }
 
 // The forward search: the earliest occurrence past the marks.
@@ -56,7 +32,7 @@ fn of_search(search: Search) -> Found
 pub extern "C" fn bedbloomer_first_after(pattern: Pattern, text: &[u16], marks: &[u16]) -> Found
     ensures { result ≡ of_search (first_after pattern text.now marks.now) }
 {
-    of_search(matching::first_after(pattern, text, marks))
+    matching::first_after(pattern, text, marks).into()
 }
 
 // The backward search: the latest occurrence before the marks.
@@ -64,5 +40,5 @@ pub extern "C" fn bedbloomer_first_after(pattern: Pattern, text: &[u16], marks: 
 pub extern "C" fn bedbloomer_last_before(pattern: Pattern, text: &[u16], marks: &[u16]) -> Found
     ensures { result ≡ of_search (last_before pattern text.now marks.now) }
 {
-    of_search(matching::last_before(pattern, text, marks))
+    matching::last_before(pattern, text, marks).into()
 }

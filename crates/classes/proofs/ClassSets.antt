@@ -109,9 +109,7 @@ letters =
 
 -- row k as a set
 abbrev letter_set : ℕ → ClassSet
-letter_set k =
-    let row = get_or letters k [] in
-    record { first = get_or row 0 0; second = get_or row 1 0; third = get_or row 2 0; fourth = get_or row 3 0 }
+letter_set k = record { 0 = get_or letters k [] }
 
 -- row k contains the class byte c where that contains the bit k
 abbrev right : ℕ → ℕ → Bool

@@ -1,5 +1,5 @@
 -- Why each return of the readers is right. Assumes nothing.
-use Rattle.std.proofs.Common.{◌≡◌, ℕ, suc, ◌+◌, ◌-◌, ◌<◌, ◌≤◌, max, Bool, true, false, ◌&&◌, eqb, ltb, leb, List, [], ◌∷◌, length, get_or, drop, sym, refl, ap, ◌∙◌, subst, add-one, arith, drop_of_length-le, get_or-drop, drop-cons, ltb-false, ltb-true, eq-eqb, ne_eqb, eqb-true, le-leb, leb-false, leb-true}
+use Rattle.std.proofs.Common.{◌≡◌, ℕ, suc, ◌+◌, ◌-◌, ◌<◌, ◌≤◌, max, Bool, true, false, ◌&&◌, eqb, ltb, leb, List, [], ◌∷◌, length, get_or, drop, sym, refl, ap, ◌∙◌, subst, add-one, arith, drop_of_length-le, get_or-drop, drop-cons, ltb-false, ltb-true, eq-eqb, ne_eqb, eqb-true, le-leb, leb-false, leb-true, Option, Some, None, option_map}
 use lib.ListN.{get_or-eq_default}
 use lib.Dec.{leb-zero}
 use borrow.Author.Tests.{lt-leb, eqb-false}
@@ -7,11 +7,10 @@ use Rattle.basics.specs.Choice.{pick}
 use Rattle.classes.specs.Trees.{Tree, letter, negation, both, either, meets}
 use Rattle.classes.specs.Steps.Reader.{Left, nothing, part, Outer, bracket, State, wants, has, stuck, given, step, wrong, ending}
 use Rattle.classes.specs.Steps.Parts.{denied_part, closed_part, operand, and_part, or_part, FactorRead, factor_at, no_factor, ConjunctionAt, ConjunctionRead, conjunction_at, no_conjunction, AlternativeAt, AlternativeRead, alternative_at, no_alternative}
-use Rattle.classes.specs.Steps.Sets.{LetterSet, intersection, union}
+use Rattle.classes.specs.Steps.Sets.{LetterSet}
 use Rattle.classes.specs.Laws.Complete.{reads_not, reads_open, reads_letter, reads_and, reads_or, reads_close, joins}
 use Rattle.classes.specs.declared.sets.ClassSet.{ClassSet}
 use Rattle.classes.specs.declared.reader.Part.{Part}
-use Rattle.classes.specs.declared.reader.Part.TheVariants.{At, Bad}
 use Rattle.classes.proofs.ClassSets.{met_not, met_and, met_or}
 
 -- ---- places
@@ -66,16 +65,16 @@ inside_fits d room f e = go (ltb 0 room) refl f e
 -- ---- where an operator's right side starts
 
 module _ (s : List ℕ) (i operator : ℕ) where
-  starts : (x y : Bool) → ltb i (length s) ≡ x → eqb (get_or s i 0) operator ≡ y → (k : ℕ) → pick x (pick y (i + 1) 0) 0 ≡ k → (k ≡ 0 → ⊥) → (i < length s) × (get_or s i 0 ≡ operator) × (i + 1 ≡ k)
-  starts true true e f k p h = (ltb-true i (length s) e, eqb-true (get_or s i 0) operator f, p)
-  starts true false e f k p h = absurd (h (sym p))
-  starts false y e f k p h = absurd (h (sym p))
+  starts : (x y : Bool) → ltb i (length s) ≡ x → eqb (get_or s i 0) operator ≡ y → {k : ℕ} → pick x (pick y (Some (i + 1)) None) None ≡ Some k → (i < length s) × (get_or s i 0 ≡ operator) × (i + 1 ≡ k)
+  starts true true e f p = (ltb-true i (length s) e, eqb-true (get_or s i 0) operator f, cc)
+  starts true false e f p = absurd (cc)
+  starts false y e f p = absurd (cc)
 
-  pub starts_not : 0 < operator → pick (ltb i (length s)) (pick (eqb (get_or s i 0) operator) (i + 1) 0) 0 ≡ 0 → get_or s i 0 ≡ operator → ⊥
+  pub starts_not : 0 < operator → pick (ltb i (length s)) (pick (eqb (get_or s i 0) operator) (Some (i + 1)) None) None ≡ None → get_or s i 0 ≡ operator → ⊥
   starts_not h p e = go (ltb i (length s)) refl (rw (eq-eqb (get_or s i 0) operator e) at p)
     where
-      go : (x : Bool) → ltb i (length s) ≡ x → pick x (i + 1) 0 ≡ 0 → ⊥
-      go true q r = omega arith
+      go : (x : Bool) → ltb i (length s) ≡ x → pick x (Some (i + 1)) None ≡ None → ⊥
+      go true q r = cc
       go false q r =
           let z : get_or s i 0 ≡ 0 = get_or-eq_default s 0 (ltb-false i (length s) q) in
           omega arith
@@ -86,27 +85,35 @@ opens : (s : List ℕ) (at : ℕ) → at < length s → get_or s at 0 ≡ 40 →
 opens s at h e n l m o = next s at 40 (wants n l m o) h e ∙ reads_open (drop (at + 1) s) n l m o
 
 module _ {s : List ℕ} {at room : ℕ} where
-  pub factor_end : length s ≤ at → FactorRead s at room Bad
+  pub factor_end : length s ≤ at → FactorRead s at room None
   unfolding ending
   factor_end h = no_factor (λ n l m o. last s at (wants n l m o) h)
 
-  pub factor_other : at < length s → (get_or s at 0 ≡ 33 → ⊥) → (get_or s at 0 ≡ 40 → ⊥) → (97 ≤ get_or s at 0 → get_or s at 0 ≤ 104 → ⊥) → FactorRead s at room Bad
-  factor_other h a b e = no_factor (λ n l m o. next s at (get_or s at 0) (wants n l m o) h refl ∙ no_factor_lem (get_or s at 0) (drop (at + 1) s) n l m o a b e)
+  -- a byte that begins no factor
+  module _ {b : ℕ} (h : at < length s) (e : b ≡ get_or s at 0) where
+    factor_other : (b ≡ 33 → ⊥) → (b ≡ 40 → ⊥) → (97 ≤ b → b ≤ 104 → ⊥) → FactorRead s at room None
+    factor_other x y z = no_factor (λ n l m o. next s at b (wants n l m o) h (sym e) ∙ no_factor_lem b (drop (at + 1) s) n l m o x y z)
 
-  pub factor-letter : {v : ClassSet} → at < length s → 97 ≤ get_or s at 0 → get_or s at 0 ≤ 104 → LetterSet (get_or s at 0 - 97) v → FactorRead s at room (At (at + 1) v true)
-  unfolding meets
-  factor-letter h low high v = factor_at {i = at + 1} (record {
-    later = omega arith;
-    within = omega arith;
-    tree = letter (get_or s at 0 - 97);
-    depth = 0;
-    value = record { entry = λ c b. sym (v.entry c b) };
-    fits = leb-zero room;
-    found = λ n l m o. next s at (get_or s at 0) (wants n l m o) h refl ∙ reads_letter (drop (at + 1) s) n l m o (get_or s at 0) low high;
-  })
+    pub factor_low : (b ≡ 33 → ⊥) → (b ≡ 40 → ⊥) → b < 97 → FactorRead s at room None
+    factor_low x y z = factor_other x y (λ low high. omega arith)
 
-  pub factor_not : {p : Part} → at < length s → get_or s at 0 ≡ 33 → FactorRead s (at + 1) room p → FactorRead s at room (denied_part p)
-  factor_not h e (factor_at {i = i} r) = factor_at {i = i} (record {
+    pub factor_high : 104 < b → FactorRead s at room None
+    factor_high z = factor_other (omega arith) (omega arith) (λ low high. omega arith)
+
+    pub factor_letter : {v : ClassSet} → 97 ≤ b → b ≤ 104 → LetterSet (b - 97) v → FactorRead s at room (Some (record { end = at + 1; set = v; fits = true }))
+    unfolding meets
+    factor_letter low high v = factor_at (record {
+      later = omega arith;
+      within = omega arith;
+      tree = letter (b - 97);
+      depth = 0;
+      value = record { entry = λ c k. sym (v.entry c k) };
+      fits = leb-zero room;
+      found = λ n l m o. next s at b (wants n l m o) h (sym e) ∙ reads_letter (drop (at + 1) s) n l m o b low high;
+    })
+
+  pub factor_not : {p : Option Part} → at < length s → get_or s at 0 ≡ 33 → FactorRead s (at + 1) room p → FactorRead s at room (option_map denied_part p)
+  factor_not h e (factor_at {p = p} r) = factor_at {p = denied_part p} (record {
     later = omega (arith, r.later);
     within = r.within;
     tree = negation r.tree;
@@ -118,36 +125,39 @@ module _ {s : List ℕ} {at room : ℕ} where
   factor_not h e (no_factor r) = no_factor (λ n l m o. next s at 33 (wants n l m o) h e ∙ reads_not (drop (at + 1) s) n l m o ∙ r (suc n) l m o)
 
   module _ (h : at < length s) (e : get_or s at 0 ≡ 40) where
-    module _ {i : ℕ} {v : ClassSet} {f : Bool} (r : AlternativeAt s (at + 1) (room - 1) i v f) (ends : get_or s i 0 ≡ 124 → ⊥) where
-      closing : (x : Bool) → ltb i (length s) ≡ x → (y : Bool) → eqb (get_or s i 0) 41 ≡ y → FactorRead s at room (pick x (pick y (At (i + 1) v (ltb 0 room && f)) Bad) Bad)
+    module _ {p : Part} (r : AlternativeAt s (at + 1) (room - 1) p) (ends : get_or s p.end 0 ≡ 124 → ⊥) where
+      closing : (x : Bool) → ltb p.end (length s) ≡ x → (y : Bool) → eqb (get_or s p.end 0) 41 ≡ y
+          → FactorRead s at room (pick x (pick y (Some (record { end = p.end + 1; set = p.set; fits = ltb 0 room && p.fits })) None) None)
       unfolding ending
-      closing true p true q = let k = ltb-true i (length s) p in factor_at {i = i + 1} (record {
+      closing true q true x = let k = ltb-true p.end (length s) q in factor_at (record {
         later = omega (arith, r.later);
         within = omega arith;
         tree = r.tree;
         depth = suc r.depth;
         value = r.value;
-        fits = inside_fits r.depth room f r.fits;
+        fits = inside_fits r.depth room p.fits r.fits;
         found = λ n l m o.
             opens s at h e n l m o ∙ r.found (bracket n l m o)
-            ∙ next s i 41 _ k (eqb-true (get_or s i 0) 41 q)
-            ∙ reads_close (drop (i + 1) s) nothing r.tree r.depth (bracket n l m o);
+            ∙ next s p.end 41 _ k (eqb-true (get_or s p.end 0) 41 x)
+            ∙ reads_close (drop (p.end + 1) s) nothing r.tree r.depth (bracket n l m o);
       })
-      closing true p false q = no_factor (λ n l m o.
+      closing true q false x = no_factor (λ n l m o.
           opens s at h e n l m o ∙ r.found (bracket n l m o)
-          ∙ next s i (get_or s i 0) _ (ltb-true i (length s) p) refl
-          ∙ no_operator (get_or s i 0) (drop (i + 1) s) nothing r.tree r.depth (bracket n l m o) r.ends ends (eqb-false (get_or s i 0) 41 q))
-      closing false p y q = no_factor (λ n l m o.
-          opens s at h e n l m o ∙ r.found (bracket n l m o) ∙ last s i _ (ltb-false i (length s) p))
+          ∙ next s p.end (get_or s p.end 0) _ (ltb-true p.end (length s) q) refl
+          ∙ no_operator (get_or s p.end 0) (drop (p.end + 1) s) nothing r.tree r.depth (bracket n l m o) r.ends ends (eqb-false (get_or s p.end 0) 41 x))
+      closing false q y x = no_factor (λ n l m o.
+          opens s at h e n l m o ∙ r.found (bracket n l m o) ∙ last s p.end _ (ltb-false p.end (length s) q))
 
-    pub factor-brackets : {p : Part} → AlternativeRead s (at + 1) (room - 1) p → operand s p 124 ≡ 0 → FactorRead s at room (closed_part s p room)
-    factor-brackets (alternative_at {i = i} r) q = closing r (starts_not s i 124 (omega arith) q) (ltb i (length s)) refl (eqb (get_or s i 0) 41) refl
-    factor-brackets (no_alternative r) q = no_factor (λ n l m o. opens s at h e n l m o ∙ r (bracket n l m o))
+    pub factor-brackets : {p : Part} → AlternativeRead s (at + 1) (room - 1) (Some p) → operand s (Some p) 124 ≡ None → FactorRead s at room (closed_part s p room)
+    factor-brackets {p} (alternative_at r) q = closing r (starts_not s p.end 124 (omega arith) q) (ltb p.end (length s)) refl (eqb (get_or s p.end 0) 41) refl
+
+    pub factor-empty : AlternativeRead s (at + 1) (room - 1) None → FactorRead s at room None
+    factor-empty (no_alternative r) = no_factor (λ n l m o. opens s at h e n l m o ∙ r (bracket n l m o))
 
 -- ---- a conjunction
 
 module _ {s : List ℕ} {at room : ℕ} where
-  pub conjunction_one : {p : Part} → FactorRead s at room p → ConjunctionRead s at room p
+  pub conjunction_one : {p : Option Part} → FactorRead s at room p → ConjunctionRead s at room p
   conjunction_one (factor_at r) = conjunction_at (record {
     later = r.later;
     within = r.within;
@@ -159,36 +169,35 @@ module _ {s : List ℕ} {at room : ℕ} where
   })
   conjunction_one (no_factor r) = no_conjunction (λ l o. r 0 l nothing o)
 
-  module _ {i : ℕ} {v : ClassSet} {f : Bool} (r : ConjunctionAt s at room i v f) (h : i < length s) (e : get_or s i 0 ≡ 38) where
-    and_on : (l : Left) (o : Outer) → ending (drop at s) (wants 0 l nothing o) ≡ ending (drop (i + 1) s) (wants 0 l (part r.tree r.depth) o)
-    and_on l o = r.found l o ∙ next s i 38 _ h e ∙ reads_and (drop (i + 1) s) l r.tree r.depth o
+  module _ {p : Part} (r : ConjunctionAt s at room p) (h : p.end < length s) (e : get_or s p.end 0 ≡ 38) where
+    and_on : (l : Left) (o : Outer) → ending (drop at s) (wants 0 l nothing o) ≡ ending (drop (p.end + 1) s) (wants 0 l (part r.tree r.depth) o)
+    and_on l o = r.found l o ∙ next s p.end 38 _ h e ∙ reads_and (drop (p.end + 1) s) l r.tree r.depth o
 
-    and_joined : {q : Part} → FactorRead s (i + 1) room q → ConjunctionRead s at room (and_part (At i v f) q)
-    and_joined (factor_at {i = j} {f = g} x) = conjunction_at {i = j} (record {
+    and_joined : {q : Option Part} → FactorRead s (p.end + 1) room q → ConjunctionRead s at room (option_map (and_part p) q)
+    and_joined (factor_at {p = q} x) = conjunction_at {p = and_part p q} (record {
       later = omega (arith, r.later, x.later);
       within = x.within;
       tree = both r.tree x.tree;
       depth = max r.depth x.depth;
       value = met_and r.value x.value;
-      fits = deeper r.depth x.depth room f g r.fits x.fits;
+      fits = deeper r.depth x.depth room p.fits q.fits r.fits x.fits;
       found = λ l o. and_on l o ∙ x.found 0 l (part r.tree r.depth) o;
     })
     and_joined (no_factor x) = no_conjunction (λ l o. and_on l o ∙ x 0 l (part r.tree r.depth) o)
 
-  pub conjunction_more : {p q : Part} (k : ℕ) → ConjunctionRead s at room p → operand s p 38 ≡ k → (k ≡ 0 → ⊥) → FactorRead s k room q → ConjunctionRead s at room (and_part p q)
-  conjunction_more {q = q} k (conjunction_at {i = i} r) e h x =
-      let z = starts s i 38 (ltb i (length s)) (eqb (get_or s i 0) 38) refl refl k e h in
+  pub conjunction_more : {p : Part} {q : Option Part} {k : ℕ} → ConjunctionRead s at room (Some p) → operand s (Some p) 38 ≡ Some k → FactorRead s k room q → ConjunctionRead s at room (option_map (and_part p) q)
+  conjunction_more {p} {q} (conjunction_at r) e x =
+      let z = starts s p.end 38 (ltb p.end (length s)) (eqb (get_or s p.end 0) 38) refl refl e in
       and_joined r z.0 z.1 (subst (λ (a : ℕ). FactorRead s a room q) (sym z.2) x)
-  conjunction_more k (no_conjunction r) e h x = absurd (h (sym e))
 
 -- ---- an alternative
 
 module _ {s : List ℕ} {at room : ℕ} where
-  pub alternative_one : {p : Part} → ConjunctionRead s at room p → operand s p 38 ≡ 0 → AlternativeRead s at room p
-  alternative_one (conjunction_at {i = i} r) e = alternative_at (record {
+  pub alternative_one : {p : Option Part} → ConjunctionRead s at room p → operand s p 38 ≡ None → AlternativeRead s at room p
+  alternative_one (conjunction_at {p = p} r) e = alternative_at (record {
     later = r.later;
     within = r.within;
-    ends = starts_not s i 38 (omega arith) e;
+    ends = starts_not s p.end 38 (omega arith) e;
     tree = r.tree;
     depth = r.depth;
     value = r.value;
@@ -197,66 +206,51 @@ module _ {s : List ℕ} {at room : ℕ} where
   })
   alternative_one (no_conjunction r) e = no_alternative (λ o. r nothing o)
 
-  module _ {i : ℕ} {v : ClassSet} {f : Bool} (r : AlternativeAt s at room i v f) (h : i < length s) (e : get_or s i 0 ≡ 124) where
-    or_on : (o : Outer) → ending (drop at s) (wants 0 nothing nothing o) ≡ ending (drop (i + 1) s) (wants 0 (part r.tree r.depth) nothing o)
-    or_on o = r.found o ∙ next s i 124 _ h e ∙ reads_or (drop (i + 1) s) nothing r.tree r.depth o
+  module _ {p : Part} (r : AlternativeAt s at room p) (h : p.end < length s) (e : get_or s p.end 0 ≡ 124) where
+    or_on : (o : Outer) → ending (drop at s) (wants 0 nothing nothing o) ≡ ending (drop (p.end + 1) s) (wants 0 (part r.tree r.depth) nothing o)
+    or_on o = r.found o ∙ next s p.end 124 _ h e ∙ reads_or (drop (p.end + 1) s) nothing r.tree r.depth o
 
-    or_joined : {q : Part} → ConjunctionRead s (i + 1) room q → operand s q 38 ≡ 0 → AlternativeRead s at room (or_part (At i v f) q)
-    or_joined (conjunction_at {i = j} {f = g} x) q = alternative_at {i = j} (record {
+    or_joined : {q : Option Part} → ConjunctionRead s (p.end + 1) room q → operand s q 38 ≡ None → AlternativeRead s at room (option_map (or_part p) q)
+    or_joined (conjunction_at {p = q} x) y = alternative_at {p = or_part p q} (record {
       later = omega (arith, r.later, x.later);
       within = x.within;
-      ends = starts_not s j 38 (omega arith) q;
+      ends = starts_not s q.end 38 (omega arith) y;
       tree = either r.tree x.tree;
       depth = max r.depth x.depth;
       value = met_or r.value x.value;
-      fits = deeper r.depth x.depth room f g r.fits x.fits;
+      fits = deeper r.depth x.depth room p.fits q.fits r.fits x.fits;
       found = λ o.
           or_on o ∙ x.found (part r.tree r.depth) o
-          ∙ joins (drop j s) (part r.tree r.depth) x.tree x.depth o (first s j 38 (starts_not s j 38 (omega arith) q));
+          ∙ joins (drop q.end s) (part r.tree r.depth) x.tree x.depth o (first s q.end 38 (starts_not s q.end 38 (omega arith) y));
     })
-    or_joined (no_conjunction x) q = no_alternative (λ o. or_on o ∙ x (part r.tree r.depth) o)
+    or_joined (no_conjunction x) y = no_alternative (λ o. or_on o ∙ x (part r.tree r.depth) o)
 
-  pub alternative_more : {p q : Part} (k : ℕ) → AlternativeRead s at room p → operand s p 124 ≡ k → (k ≡ 0 → ⊥) → ConjunctionRead s k room q → operand s q 38 ≡ 0 → AlternativeRead s at room (or_part p q)
-  alternative_more {q = q} k (alternative_at {i = i} r) e h x y =
-      let z = starts s i 124 (ltb i (length s)) (eqb (get_or s i 0) 124) refl refl k e h in
+  pub alternative_more : {p : Part} {q : Option Part} {k : ℕ} → AlternativeRead s at room (Some p) → operand s (Some p) 124 ≡ Some k → ConjunctionRead s k room q → operand s q 38 ≡ None → AlternativeRead s at room (option_map (or_part p) q)
+  alternative_more {p} {q} (alternative_at r) e x y =
+      let z = starts s p.end 124 (ltb p.end (length s)) (eqb (get_or s p.end 0) 124) refl refl e in
       or_joined r z.0 z.1 (subst (λ (a : ℕ). ConjunctionRead s a room q) (sym z.2) x) y
-  alternative_more k (no_alternative r) e h x y = absurd (h (sym e))
 
 -- ---- what follows an operator starts later, and there is less of it
 
-later : (s : List ℕ) (at i operator k : ℕ) (v : ClassSet) (f : Bool) → at < i → operand s (At i v f) operator ≡ k → (k ≡ 0 → ⊥) → (at < k) × (k ≤ length s)
-later s at i operator k v f l e h =
-    let z = starts s i operator (ltb i (length s)) (eqb (get_or s i 0) operator) refl refl k e h in
-    (omega (arith, z.0, z.2), omega (arith, z.0, z.2))
+-- a part ends past its start, and within the bytes
+pub record Behind (s : List ℕ) (at : ℕ) (p : Part) : Type 0 where
+  pub later : at < p.end
+  pub within : p.end ≤ length s
 
-module _ {s : List ℕ} {at room : ℕ} (k : ℕ) where
-  -- after the parts so far
-  pub conjunction_later : {p : Part} → ConjunctionRead s at room p → operand s p 38 ≡ k → (k ≡ 0 → ⊥) → (at < k) × (k ≤ length s)
-  conjunction_later (conjunction_at {i = i} {v = v} {f = f} r) e h = later s at i 38 k v f r.later e h
-  conjunction_later (no_conjunction r) e h = absurd (h (sym e))
+module _ {s : List ℕ} {at room : ℕ} {p : Part} where
+  pub factor_behind : FactorRead s at room (Some p) → Behind s at p
+  factor_behind (factor_at r) = record { later = r.later; within = r.within }
 
-  pub alternative_later : {p : Part} → AlternativeRead s at room p → operand s p 124 ≡ k → (k ≡ 0 → ⊥) → (at < k) × (k ≤ length s)
-  alternative_later (alternative_at {i = i} {v = v} {f = f} r) e h = later s at i 124 k v f r.later e h
-  alternative_later (no_alternative r) e h = absurd (h (sym e))
+  pub conjunction_behind : ConjunctionRead s at room (Some p) → Behind s at p
+  conjunction_behind (conjunction_at r) = record { later = r.later; within = r.within }
 
-  -- after one part more, which starts at `at`
-  pub and_later : (p : Part) {q : Part} → FactorRead s at room q → operand s (and_part p q) 38 ≡ k → (k ≡ 0 → ⊥) → (at < k) × (k ≤ length s)
-  and_later (At i v f) (factor_at {i = j} {v = w} {f = g} r) e h = later s at j 38 k (intersection v w) (f && g) r.later e h
-  and_later (At i v f) (no_factor r) e h = absurd (h (sym e))
-  and_later Bad r e h = absurd (h (sym e))
+  pub alternative_behind : AlternativeRead s at room (Some p) → Behind s at p
+  alternative_behind (alternative_at r) = record { later = r.later; within = r.within }
 
-  pub or_later : (p : Part) {q : Part} → ConjunctionRead s at room q → operand s (or_part p q) 124 ≡ k → (k ≡ 0 → ⊥) → (at < k) × (k ≤ length s)
-  or_later (At i v f) (conjunction_at {i = j} {v = w} {f = g} r) e h = later s at j 124 k (union v w) (f && g) r.later e h
-  or_later (At i v f) (no_conjunction r) e h = absurd (h (sym e))
-  or_later Bad r e h = absurd (h (sym e))
+-- the operand after a part starts behind it
+pub operand_behind : (s : List ℕ) (operator : ℕ) (p : Part) {k : ℕ} → operand s (Some p) operator ≡ Some k → (k ≡ p.end + 1) × (k ≤ length s)
+operand_behind s operator p {k} e =
+    let z = starts s p.end operator (ltb p.end (length s)) (eqb (get_or s p.end 0) operator) refl refl e in
+    (omega (arith, z.2), omega (arith, z.0, z.2))
 
--- so many bytes are left from an operand on, with one for the operand itself; none where there is no operand
-abbrev pub left : List ℕ → ℕ → ℕ
-left s k = pick (eqb k 0) 0 (length s + 1 - k)
-
-pub less_left : (s : List ℕ) (k n : ℕ) → (k ≡ 0 → ⊥) → k ≤ length s → ((n ≡ 0 → ⊥) → (k < n) × (n ≤ length s)) → left s n < left s k
-less_left s k n h l m = rw (ne_eqb k 0 h) (go (eqb n 0) refl)
-  where
-    go : (b : Bool) → eqb n 0 ≡ b → pick b 0 (length s + 1 - n) < length s + 1 - k
-    go true e = omega arith
-    go false e = omega (arith, m (eqb-false n 0 e))
+pub ruleset readings = (factor_end, factor_low, factor_high, factor_letter, factor_not, factor-brackets, factor-empty, conjunction_one, conjunction_more, alternative_one, alternative_more)

@@ -1,14 +1,13 @@
 -- A worked text that is recoded by word class and then counted: "the" and, after up to two words, a noun or a name that is no plural. The
 -- letters stand for: a noun, b name, c plural, d adjective.
-use Rattle.std.specs.Prelude.{ℕ, ◌≤◌, ◌≡◌, List, [], ◌∷◌, length}
+use Rattle.std.specs.Prelude.{ℕ, ◌≤◌, ◌≡◌, List, [], ◌∷◌, length, Result, Ok}
 use Rattle.basics.specs.Written.{over}
 use Rattle.pattern.specs.declared.Pattern.{Pattern}
+use Rattle.pattern.specs.declared.refusal.Refusal.{Refusal}
 use Rattle.matching.specs.Texts.{one_word, pattern_of, Results}
 use Rattle.classes.specs.Trees.{Tree, letter, negation, both, either}
 use Rattle.classes.specs.Grammar.{Grammar, alternative}
 use Rattle.classes.specs.Recoding.{Recodes}
-use Rattle.classes.specs.declared.Recoded.{Recoded}
-use Rattle.classes.specs.declared.Recoded.TheVariants.{Words}
 
 -- the cat sees the cats . Anna sees the old dog
 unfoldable pub text_classed : List ℕ
@@ -35,8 +34,8 @@ pattern_classed = pattern_of (one_word 10 0 0 ∷ one_word 900 0 2 ∷ []) 1 200
 
 pub record Worked : Type 0 where
   pub read : Grammar alternative expression_classed reading_classed 1
-  pub recoded : {out : List ℕ} {r : Recoded} {after : List ℕ} → Recodes text_classed classes_classed expression_classed 900 out r after
-      → 11 ≤ length out → (r ≡ Words 11) × (after ≡ over out text-recoded)
+  pub recoded : {out : List ℕ} {r : Result ℕ Refusal} {after : List ℕ} → Recodes text_classed classes_classed expression_classed 900 out r after
+      → 11 ≤ length out → (r ≡ Ok 11) × (after ≡ over out text-recoded)
   -- the cat, the old dog; not: the cats . Anna
   pub counted : Results pattern_classed text-recoded
       ((1 ∷ 2 ∷ []) ∷ (9 ∷ 11 ∷ []) ∷ [])

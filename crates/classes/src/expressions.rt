@@ -3,41 +3,29 @@ ghost use Rattle.classes.specs.Steps.Expressions.{whole_part, Judges};
 
 use crate::reader::{Part, alternative};
 use crate::sets::ClassSet;
+use pattern::Refusal;
 
-// What bytes are as an expression: none, one whose brackets are nested too deep, or one that these class bytes meet.
-#[derive(Clone, Copy)]
-pub(crate) enum Expression {
-    Wrong,
-    Deep,
-    Met(ClassSet),
-}
-
-// What the bytes are, by the part that they start with.
-fn whole_part(s: &[u8], p: Part) -> Expression
-    ensures { result ≡ whole_part s.now p }
+// What the bytes are, by the part that they start with: the class bytes that meet them, or why they are refused.
+fn whole_part(s: &[u8], start: Option<Part>) -> Result<ClassSet, Refusal>
+    ensures { result ≡ whole_part s.now start }
 {
-    match p {
-        Part::At(i, v, f) => {
-            if i < s.len() {
-                return Expression::Wrong;
-            }
-            if f {
-                return Expression::Met(v);
-            }
-            Expression::Deep
-        }
-        Part::Bad => Expression::Wrong,
+    let part = start.ok_or(Refusal::NotExpression)?;
+    if part.end < s.len() {
+        return Err(Refusal::NotExpression);
     }
+    if !part.fits {
+        return Err(Refusal::TooDeep);
+    }
+    Ok(part.set)
 }
 
-// What the bytes are: an expression has at most 200 of them, and brackets nested at most 8 deep.
+// The class bytes that meet an expression: it has at most 200 bytes, and brackets nested at most 8 deep.
 #[tactic(auto, using(crate::proofs::WholeParts::judgements))]
-pub(crate) fn judge(s: &[u8]) -> Expression
+pub(crate) fn judge(s: &[u8]) -> Result<ClassSet, Refusal>
     ensures { Judges s.now result }
 {
     if 200 < s.len() {
-        return Expression::Wrong;
+        return Err(Refusal::NotExpression);
     }
-    let p = alternative(s, 0, 8);
-    whole_part(s, p)
+    whole_part(s, alternative(s, 0, 8))
 }

@@ -8,18 +8,12 @@ mod words;
 
 ghost use Rattle.classes.specs.Recoding.{Recodes};
 
-use crate::expressions::{Expression, judge};
+use crate::expressions::judge;
 use crate::words::put_words;
-use pattern::Refusal;
-
-// How many words were written, or why none was.
-#[derive(Clone, Copy)]
-pub enum Recoded {
-    Words(usize),
-    Refused(Refusal),
-}
+use pattern::{Pattern, Refusal};
 
 // Writes the text to the start of the output list, with the code for each word whose class byte meets the expression. A 0 stays 0.
+// (Five arguments, as C gives them; a refusal for the code or the list has the place 0: `Recodes` and the table promise it.)
 #[tactic(auto, using(crate::proofs::Recodings::refusals))]
 pub fn recode(
     text: &[u16],
@@ -27,29 +21,23 @@ pub fn recode(
     expression: &[u8],
     code: u16,
     out: &mut [u16],
-) -> Recoded
+) -> Result<usize, Refusal>
     ensures { Recodes text.now classes.now expression.now code out.old result out.new }
 {
     let n = text.len();
-    if 20000 < n {
-        return Recoded::Refused(Refusal::TextLength);
+    if Pattern::TEXT < n {
+        return Err(Refusal::TextLength);
     }
     if n != classes.len() {
-        return Recoded::Refused(Refusal::UnequalLengths);
+        return Err(Refusal::UnequalLengths);
     }
     if code == 0 {
-        return Recoded::Refused(Refusal::ZeroWord(0));
+        return Err(Refusal::ZeroWord(0));
     }
-    let judged = judge(expression);
-    match judged {
-        Expression::Wrong => Recoded::Refused(Refusal::NotExpression),
-        Expression::Deep => Recoded::Refused(Refusal::TooDeep),
-        Expression::Met(set) => {
-            if out.len() < n {
-                return Recoded::Refused(Refusal::ListLength(0));
-            }
-            put_words(set, code, text, classes, out);
-            Recoded::Words(n)
-        }
+    let set = judge(expression)?;
+    if out.len() < n {
+        return Err(Refusal::ListLength(0));
     }
+    put_words(set, code, text, classes, out);
+    Ok(n)
 }

@@ -1,16 +1,11 @@
 ghost use Rattle.std.specs.Prelude.{◌≡◌, ◌<◌};
-ghost use Rattle.classes.specs.Steps.Sets.{LetterSet, complement, intersection, union};
+ghost use Rattle.classes.specs.Steps.Sets.{numbers, contains, LetterSet, EachNumber, complement, intersection, union};
 
-use basics::widen_byte;
+use std::ops::{BitAnd, BitOr, Not};
 
 // A set of class bytes, a bit for each of them, in four numbers of 64 bits: the byte c stands at bit c % 64 of number c / 64.
 #[derive(Clone, Copy)]
-pub(crate) struct ClassSet {
-    pub first: u64,
-    pub second: u64,
-    pub third: u64,
-    pub fourth: u64,
-}
+pub(crate) struct ClassSet([u64; 4]);
 
 // All bits.
 const ALL: u64 = 0xffffffffffffffff;
@@ -32,48 +27,64 @@ pub(crate) fn letter_set(bit: u8) -> ClassSet
     requires { bit < 8 }
     ensures { LetterSet bit result }
 {
-    let k = widen_byte(bit);
-    let numbers = LETTERS[k];
-    ClassSet {
-        first: numbers[0],
-        second: numbers[1],
-        third: numbers[2],
-        fourth: numbers[3],
+    ClassSet(LETTERS[usize::from(bit)])
+}
+
+impl ClassSet {
+    // Whether the class byte is in the set.
+    #[tactic(auto, unfolding(crate::specs::Steps::Sets::contains))]
+    pub(crate) fn contains(self, class: u8) -> bool
+        ensures { result ≡ contains (numbers self) class }
+    {
+        let c = usize::from(class);
+        (self.0[c / 64] >> (c % 64)) % 2 == 1
+    }
+
+    // An operation on each of the four numbers.
+    fn each_number<F: Fn(u64, u64) -> u64>(self, other: Self, op: F) -> Self
+        requires { F.IsAlwaysCallable op }
+        ensures { EachNumber (F.post op) self other result }
+    {
+        let v = self.0;
+        let w = other.0;
+        ClassSet([
+            op(v[0], w[0]),
+            op(v[1], w[1]),
+            op(v[2], w[2]),
+            op(v[3], w[3]),
+        ])
     }
 }
 
 // The class bytes that are not in the set.
-pub(crate) fn complement(v: ClassSet) -> ClassSet
-    ensures { result ≡ complement v }
-{
-    ClassSet {
-        first: v.first ^ ALL,
-        second: v.second ^ ALL,
-        third: v.third ^ ALL,
-        fourth: v.fourth ^ ALL,
+impl Not for ClassSet {
+    type Output = Self;
+
+    ghost not_gives = { λ v r. r ≡ complement v };
+
+    fn not(self) -> Self {
+        self.each_number(ClassSet([ALL; 4]), |a, b| a ^ b)
     }
 }
 
 // The class bytes that are in both.
-pub(crate) fn intersection(v: ClassSet, w: ClassSet) -> ClassSet
-    ensures { result ≡ intersection v w }
-{
-    ClassSet {
-        first: v.first & w.first,
-        second: v.second & w.second,
-        third: v.third & w.third,
-        fourth: v.fourth & w.fourth,
+impl BitAnd for ClassSet {
+    type Output = Self;
+
+    ghost bitand_gives = { λ v w r. r ≡ intersection v w };
+
+    fn bitand(self, other: Self) -> Self {
+        self.each_number(other, |a, b| a & b)
     }
 }
 
 // The class bytes that are in either.
-pub(crate) fn union(v: ClassSet, w: ClassSet) -> ClassSet
-    ensures { result ≡ union v w }
-{
-    ClassSet {
-        first: v.first | w.first,
-        second: v.second | w.second,
-        third: v.third | w.third,
-        fourth: v.fourth | w.fourth,
+impl BitOr for ClassSet {
+    type Output = Self;
+
+    ghost bitor_gives = { λ v w r. r ≡ union v w };
+
+    fn bitor(self, other: Self) -> Self {
+        self.each_number(other, |a, b| a | b)
     }
 }

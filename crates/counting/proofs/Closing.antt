@@ -35,9 +35,11 @@ module _ {t E₀ : List ℕ} {i last : ℕ} {E : List ℕ} (s : Closing t E₀ i
   pub closing_last : last ≤ length t
   closing_last = omega (arith, s.here, s.inside, (next_end_is (ends_at t) (length t - i) i).within)
 
-  pub closing_more : 0 < i → length t ≤ length E₀ → {next : ℕ} → next ≡ pick (eqb (get_or t (i - 1) 0) 0) i last → Closing t E₀ (i - 1) next (set E (i - 1) last)
-  closing_more pos room e =
+  pub closing_more : 0 < i → length t ≤ length E₀ → {next : ℕ} → next ≡ pick (eqb (get_or t (i - 1) 0) 0) (i - 1 + 1) last → Closing t E₀ (i - 1) next (set E (i - 1) last)
+  closing_more pos room en =
       let l = s.inside in
+      let place : i - 1 + 1 ≡ i = omega arith in
+      let e = rw place at en in
       let z : i - 1 < length E = omega (arith, s.long) in
       record {
         long = length-set E (i - 1) last ∙ s.long;

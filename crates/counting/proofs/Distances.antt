@@ -1,5 +1,5 @@
 -- The bounds of the gaps, the distances they come to, and whether the span limits bind. Assumes nothing.
-use Rattle.std.proofs.Common.{◌≡◌, ℕ, zero, suc, ◌+◌, ◌-◌, ◌<◌, ◌≤◌, min, Bool, true, ◌&&◌, leb, List, length, get_or, refl, arith, leb-true}
+use Rattle.std.proofs.Common.{◌≡◌, ℕ, zero, suc, ◌+◌, ◌-◌, ◌<◌, ◌≤◌, min, Bool, true, ◌&&◌, leb, List, length, refl, arith, leb-true}
 use mathlib.Core.Bool.{and-eq-true_iff}
 use Rattle.pattern.specs.declared.Pattern.{Pattern}
 use Rattle.pattern.specs.Patterns.{slot_at}
@@ -7,14 +7,16 @@ use Rattle.pattern.specs.Accepted.{Accepted}
 use Rattle.matching.specs.Spans.{distance, near, far, width}
 use Rattle.counting.specs.Laws.Inputs.{gaps}
 use Rattle.counting.specs.Laws.Bound.{distance-bound}
-use Rattle.counting.specs.Steps.Plans.{bound, Bounds, unbound}
+use Rattle.counting.specs.declared.gaps.Gap.{Gap}
+use Rattle.counting.specs.Steps.Plans.{gap_at, Gaps, unbound}
 
--- ---- one bound of each gap: done below j
+-- ---- the gap before each slot: done below j
 
-pub record Bounding (f : Pattern) (wide : Bool) (j : ℕ) (b : List ℕ) : Type 0 where
-  pub long : length b ≡ 16
+pub record Gapping (f : Pattern) (j : ℕ) (G : List Gap) : Type 0 where
+  pub long : length G ≡ 16
   pub inside : j ≤ f.count
-  pub gap : (k : ℕ) → k < j → get_or b k 0 ≡ bound wide (slot_at f k)
+  pub low : (k : ℕ) → k < j → (gap_at G k).low ≡ (slot_at f k).low
+  pub high : (k : ℕ) → k < j → (gap_at G k).high ≡ (slot_at f k).high
 
 -- ---- distances
 
@@ -31,9 +33,12 @@ unfolding distance
 distance_same zero g h e = refl
 distance_same (suc k) g h e = omega (arith, distance_same k g h (λ j l. e j (omega arith)), e (suc k) (omega arith))
 
-pub bounds_distance : {f : Pattern} {wide : Bool} {b : List ℕ} → Bounds f wide b → 1 ≤ f.count
-    → distance (λ j. get_or b j 0) (f.count - 1) ≡ distance (λ j. bound wide (slot_at f j)) (f.count - 1)
-bounds_distance {f} {wide} {b} s h = distance_same (f.count - 1) (λ j. get_or b j 0) (λ j. bound wide (slot_at f j)) (λ j l. s.gap j (omega arith))
+module _ {f : Pattern} {G : List Gap} (s : Gaps f G) (some : 1 ≤ f.count) where
+  pub near_distance : distance (λ j. (gap_at G j).low) (f.count - 1) ≡ near f (f.count - 1)
+  near_distance = distance_same (f.count - 1) (λ j. (gap_at G j).low) (λ j. (slot_at f j).low) (λ j l. s.low j (omega arith))
+
+  pub far_distance : distance (λ j. (gap_at G j).high) (f.count - 1) ≡ far f (f.count - 1)
+  far_distance = distance_same (f.count - 1) (λ j. (gap_at G j).high) (λ j. (slot_at f j).high) (λ j l. s.high j (omega arith))
 
 module _ {f : Pattern} (ok : Accepted f) (j : ℕ) (h : j < f.count) where
   -- no slot is further than this from the first

@@ -14,18 +14,19 @@ use Rattle.matching.proofs.Laws.Branches.{tree, forest}
 use Rattle.matching.specs.Spans.{width, horizon, limit, least}
 use Rattle.matching.proofs.Laws.Cover.{occurrences_each, starting_each}
 use Rattle.matching.proofs.Laws.Sentences.{horizon_past}
+use Rattle.counting.specs.declared.tables.Tables.{Tables}
+use Rattle.counting.specs.declared.walk.Trail.{Trail}
 use Rattle.counting.specs.declared.window.Window.{Window}
 use Rattle.counting.specs.Steps.Inputs.{Input}
 use Rattle.counting.specs.Laws.Inputs.{gaps}
 use Rattle.counting.specs.Laws.Runs.{gather_same, run_split, length_run, run_one, put-append, put_written}
 use Rattle.counting.specs.Steps.Fits.{Fitted}
-use Rattle.counting.specs.Steps.Plans.{Handed, Run, plan_pattern, plan_view, run_pattern, run_view, unbound}
+use Rattle.counting.specs.Steps.Plans.{gap_at, Plan, plan_pattern, plan_view, Within, sentence_at, start_at, unbound}
 use Rattle.counting.specs.Steps.Rows.{size, stop_at}
 use Rattle.counting.specs.Steps.Tables.{rows_of, rows_at, Tabled}
 use Rattle.counting.specs.Steps.Walks.{run, put, Leads, Walk, Walked}
-use Rattle.counting.specs.Steps.Listings.{PutWhole, PutEach}
-use Rattle.counting.proofs.Distances.{span_some}
-use Rattle.counting.proofs.Parting.{last_inside, sentence_at, sentence_run, start_at, start_run, stop-sentence, stop_start, from_start, off_fits, starting_off, sentence-rows}
+use Rattle.counting.specs.Steps.Listings.{Put, window_rows, PutWindow, WindowPut}
+use Rattle.counting.proofs.Parting.{last_of, sentence_within, start_within, stop-sentence, stop_start, from_start, off_fits, starting_off, sentence-rows}
 use Rattle.counting.proofs.Tabling.{rows_last, rows_step, rows_child}
 
 -- ---- a window's table leads through its rows
@@ -48,25 +49,26 @@ module _ (f : Pattern) (v : View) (w : Window) where
   last_at : (j k : ℕ) → k ≡ 0 → (x : ℕ) → (rows k j x ≡ [] → ⊥) → rows k j x ≡ ((first + x + 1) ∷ []) ∷ []
   last_at j k ek x h = rw ek (rows_last f v w j x (rw ek at h))
 
-  pub leading : {reach : ℕ} {low high T N : List ℕ} → Handed f v reach low high T → first + w.places ≤ v.places → Tabled f v w 0 N
-      → 320016 ≤ length N → Leads f.count first low high N (size f w) (rows_at f v w)
+module _ {r : Trail} (g : Plan r.tables) {w : Window} (i : Within r.tables.places w) (at : r.first ≡ w.first) where
+  pub leading : Tabled (plan_pattern g) (plan_view g) w 0 r.next.now → Leads r (size (plan_pattern g) w) (rows_at (plan_pattern g) (plan_view g) w)
   unfolding size
-  leading g inside table long =
-      let ok = g.input in
-      let bl = g.lows in
-      let bh = g.highs in
+  leading table =
+      let f = plan_pattern g in
+      let v = plan_view g in
+      let h = g.handed in
+      let ok = h.input in
       let short = ok.short in
+      let inside = i.inside in
+      let low : (j : ℕ) → j < f.count → (gap_at r.tables.outline.gaps j).low ≡ (slot_at f j).low = h.outlined.gaps.low in
+      let high : (j : ℕ) → j < f.count → (gap_at r.tables.outline.gaps j).high ≡ (slot_at f j).high = h.outlined.gaps.high in
       record {
         few = ok.pattern.few;
-        lows = bl.long;
-        highs = bh.long;
-        long = long;
         inside = λ j h. omega arith;
         next = λ j h i l. table.next j (omega arith) h i l;
-        last = λ j e x h. last_at j (f.count - 1 - j) (omega arith) x h;
-        step = λ j l x h. step_at j (j + 1) (f.count - 1 - (j + 1)) (f.count - 1 - j) (omega arith) (omega arith) (bl.gap (j + 1) l) (bh.gap (j + 1) l) x h;
-        child = λ j l x h. child_at j (j + 1) (f.count - 1 - (j + 1)) (f.count - 1 - j) (omega arith) (omega arith) (bl.gap (j + 1) l) (bh.gap (j + 1) l) x h;
-        gap = λ j l. let g = gaps ok.pattern (j + 1) l in let a = bl.gap (j + 1) l in let b = bh.gap (j + 1) l in (omega arith, omega arith);
+        last = λ j e x h. rw at (last_at f v w j (f.count - 1 - j) (omega arith) x h);
+        step = λ j l x h. rw at (step_at f v w j (j + 1) (f.count - 1 - (j + 1)) (f.count - 1 - j) (omega arith) (omega arith) (low (j + 1) l) (high (j + 1) l) x h);
+        child = λ j l x h. child_at f v w j (j + 1) (f.count - 1 - (j + 1)) (f.count - 1 - j) (omega arith) (omega arith) (low (j + 1) l) (high (j + 1) l) x h;
+        gap = λ j l. let g = gaps ok.pattern (j + 1) l in let a = low (j + 1) l in let b = high (j + 1) l in (omega arith, omega arith);
       }
 
 -- ---- what is written
@@ -137,46 +139,16 @@ module _ {f : Pattern} {v : View} (ok : Input f v) where
         let e : run (start_rows f v) i (i + 1) ≡ [] = run_one (start_rows f v) i ∙ starting_off ok (i + 1) (omega arith) (omega arith) (off_fits ok fit i inside off) in
         listing_past (omega arith) (omega arith) refl (rw e (omega arith)) (rw e refl)
 
-    -- by the table of a window w from the index i on, whose first slot has the rows from there to e - 1
-    module _ (w : Window) {e y : ℕ} (past : i < e) (end : e ≤ v.places) (ey : y + 1 ≡ e - i)
-        (same : run (rows_at f v w 0) 0 (e - i) ≡ run (start_rows f v) i e) {low high N : List ℕ} (leads : Leads f.count i low high N (size f w) (rows_at f v w))
-        (room : length (occurrences_in f v) * f.count ≤ length l) where
-      pub window_walk : Walk f.count i low high N 0 0 y rows (length l')
-      window_walk =
-          let some = ok.pattern.some in
-          let short = ok.short in
-          let long = s.long in
-          record {
-            n = size f w;
-            rows = rows_at f v w;
-            leads = leads;
-            slot = omega arith;
-            start = omega arith;
-            order = omega arith;
-            near = omega arith;
-            room = length (occurrences_in f v);
-            fits = rw (ey, same, ← each_rows) (omega (arith, s.number, length_run (start_rows f v) 0 i e (omega arith) (omega arith), length_run (start_rows f v) 0 e v.places (omega arith) end));
-            wide = rw long room;
-          }
-
-      pub listing_more : {row : List ℕ} {r : ℕ} {l'' : List ℕ} → length l'' ≡ length l' → Walked window_walk row l' r l'' → Listing f v l e r l''
-      unfolding window_walk
-      listing_more {row} long d =
-          let same' : run (rows_at f v w 0) 0 (y + 1) ≡ run (start_rows f v) i e = rw ey same in
-          listing_past past end long (rw same' at d.number)
-          (d.list ∙ ap (λ (R : List (List ℕ)). put f.count rows R l') (map_same row (run (rows_at f v w 0) 0 (y + 1)) ∙ same'))
-
   -- the rows of the two kinds of window
   module _ {i e : ℕ} (inside : i < v.places) (ee : e ≡ horizon v (i + 1)) where
-    pub start_rows_lem : {k span from : ℕ} → span ≡ width f → k ≡ min span (e - i) → from ≡ i + f.least → run (rows_at f v (start_at i k from) 0) 0 (i + 1 - i) ≡ run (start_rows f v) i (i + 1)
+    pub start_rows_lem : {k span from : ℕ} → span ≡ width f → k ≡ min span (e - i) → from ≡ i + f.least → run (rows_at f v (start_at i k from) 0) 0 1 ≡ run (start_rows f v) i (i + 1)
     unfolding rows_of start_rows tree
     start_rows_lem {k} {span} {from} es ek ef =
         let a : i + 0 + 1 ≡ i + 1 = omega arith in
-        let d : i + 1 - i ≡ 0 + 1 = omega arith in
         let x : stop_at f (start_at i k from) ≡ limit f v (i + 1) = fun_ext (stop_start f v i k span from es ee ek) in
         let y = from_start f v i k span from es ee ek ef in
         let z : f.count - 1 - 0 ≡ f.count - 1 = omega arith in
-        let one : run (rows_at f v (start_at i k from) 0) 0 (i + 1 - i) ≡ rows_at f v (start_at i k from) 0 0 = rw d (run_one (rows_at f v (start_at i k from) 0) 0) in
+        let one : run (rows_at f v (start_at i k from) 0) 0 1 ≡ rows_at f v (start_at i k from) 0 0 = run_one (rows_at f v (start_at i k from) 0) 0 in
         let rows : rows_at f v (start_at i k from) 0 0 ≡ starting_in f v (i + 1) = rw (a, x, y, z) (sym (starting_each f v ok.pattern.some (i + 1) (omega arith) (omega arith) ok.pattern.least)) in
         one ∙ rows ∙ sym (run_one (start_rows f v) i)
 
@@ -191,51 +163,99 @@ module _ {f : Pattern} {v : View} (ok : Input f v) where
         rw d (gather_same (e - i) (rows_at f v (sentence_at i e) 0) (start_rows f v) 0 i
         (λ k h. let c : i + (0 + k) + 1 ≡ i + k + 1 = omega arith in rw (c, x, z) (sym (sentence-rows ok spans inside ee (i + k) (omega arith) (omega arith)))))
 
--- ---- a turn of the two loops: a walk over a window's table, from the index i on
+-- ---- a window's rows, by a walk over its table
 
--- over a sentence
-module _ {m n reach : ℕ} {low high T E l : List ℕ} (g : PutWhole m n reach low high T E (length l)) {i rows : ℕ} {l' : List ℕ}
-    (s : Listing (plan_pattern g.parts.plan) (plan_view g.parts.plan) l i rows l') (inside : i < n) {e : ℕ} (d : e ≡ get_or E i 0)
-    {N : List ℕ} (table : (r : Run m reach low high T (sentence_at i e)) → Tabled (run_pattern r) (run_view r) (sentence_at i e) 0 N) (long : 320016 ≤ length N) where
-  sentence_rows : run (rows_at (plan_pattern g.parts.plan) (plan_view g.parts.plan) (sentence_at i e) 0) 0 (e - i) ≡ run (start_rows (plan_pattern g.parts.plan) (plan_view g.parts.plan)) i e
-  sentence_rows = sentence_runs g.parts.plan.handed.input inside (d ∙ g.parts.horizons.last i inside) g.spans
+module _ {r : Trail} {w : Window} {done space : ℕ} (g : PutWindow r.tables w done space) (at : r.first ≡ w.first) {y : ℕ} (ey : y + 1 ≡ w.starts)
+    (table : Tabled (plan_pattern g.plan) (plan_view g.plan) w 0 r.next.now) where
+  pub window_walk : Walk r 0 0 y done space
+  window_walk =
+      let ok = g.plan.handed.input in
+      let some = ok.pattern.some in
+      let short = ok.short in
+      let inside = g.within.inside in
+      let starts = g.within.starts in
+      record {
+        n = size (plan_pattern g.plan) w;
+        rows = rows_at (plan_pattern g.plan) (plan_view g.plan) w;
+        leads = leading g.plan g.within at table;
+        slot = omega arith;
+        start = omega arith;
+        order = omega arith;
+        near = omega arith;
+        room = g.room;
+        fits = rw ey g.fits;
+        wide = g.wide;
+      }
 
-  sentence_leads : Leads m i low high N (size (plan_pattern g.parts.plan) (sentence_at i e)) (rows_at (plan_pattern g.parts.plan) (plan_view g.parts.plan) (sentence_at i e))
-  sentence_leads = let r = sentence_run g.parts inside d in leading _ _ _ g.parts.plan.handed r.inside (table r) long
+  pub window_written : {row l : List ℕ} {n : ℕ} {l' : List ℕ} → Walked window_walk row l n l' → WindowPut g l n l'
+  unfolding window_walk
+  window_written {row} {l} d =
+      let R = rows_at (plan_pattern g.plan) (plan_view g.plan) w 0 in
+      record {
+        number = rw ey at d.number;
+        list = d.list ∙ ap (λ (S : List (List ℕ)). put r.tables.slots done S l) (map_same row (run R 0 (y + 1)) ∙ ap (run R 0) ey);
+      }
 
-  sentence_last : e - i - 1 + 1 ≡ e - i
-  sentence_last = omega (arith, last_inside g.parts.horizons inside d)
+-- ---- a turn of the two loops: a window's rows, from the index i on
 
-  pub sentence_walk : Walk m i low high N 0 0 (e - i - 1) rows (length l')
-  sentence_walk =
-      let b = last_inside g.parts.horizons inside d in
-      window_walk g.parts.plan.handed.input s (sentence_at i e) b.0 b.1 sentence_last sentence_rows sentence_leads g.room
+module _ {t : Tables} {l : List ℕ} (g : Put t (length l)) {i rows : ℕ} {l' : List ℕ} (s : Listing (plan_pattern g.plan) (plan_view g.plan) l i rows l') {w : Window} where
+  -- those from there to e - 1
+  module _ {e : ℕ} (past : i < e) (end : e ≤ t.places) (within : Within t.places w) (starts : w.starts ≡ e - i)
+      (same : window_rows g.plan w ≡ run (start_rows (plan_pattern g.plan) (plan_view g.plan)) i e) where
+    window_put : PutWindow t w rows (length l')
+    window_put =
+        let f = plan_pattern g.plan in
+        let v = plan_view g.plan in
+        let long = s.long in
+        record {
+          plan = g.plan;
+          within = within;
+          some = omega arith;
+          room = length (occurrences_in f v);
+          fits = rw (same, ← each_rows g.plan.handed.input)
+              (omega (arith, s.number, length_run (start_rows f v) 0 i e (omega arith) (omega arith), length_run (start_rows f v) 0 e t.places (omega arith) end));
+          wide = rw long g.room;
+        }
 
-  pub sentence_listed : {row : List ℕ} {r : ℕ} {l'' : List ℕ} → length l'' ≡ length l' → Walked sentence_walk row l' r l''
-      → Listing (plan_pattern g.parts.plan) (plan_view g.parts.plan) l e r l''
-  unfolding sentence_walk
-  sentence_listed same w =
-      let b = last_inside g.parts.horizons inside d in
-      listing_more g.parts.plan.handed.input s (sentence_at i e) b.0 b.1 sentence_last sentence_rows sentence_leads g.room same w
+    listing_more : {r : ℕ} {l'' : List ℕ} → length l'' ≡ length l' → WindowPut window_put l' r l'' → Listing (plan_pattern g.plan) (plan_view g.plan) l e r l''
+    unfolding window_put
+    listing_more long d = listing_past g.plan.handed.input s past end long (rw same at d.number) (rw same at d.list)
 
--- over the places that a row can span from its first one on
-module _ {m n reach least span : ℕ} {low high T E l : List ℕ} (g : PutEach m n reach least span low high T E (length l)) {i rows : ℕ} {l' : List ℕ}
-    (s : Listing (plan_pattern g.parts.plan) (plan_view g.parts.plan) l i rows l') (inside : i < n) {e k : ℕ} (d : e ≡ get_or E i 0) (ek : k ≡ min span (e - i))
-    {N : List ℕ} (table : (r : Run m reach low high T (start_at i k (i + least))) → Tabled (run_pattern r) (run_view r) (start_at i k (i + least)) 0 N) (long : 320016 ≤ length N) where
-  place_rows : run (rows_at (plan_pattern g.parts.plan) (plan_view g.parts.plan) (start_at i k (i + least)) 0) 0 (i + 1 - i)
-      ≡ run (start_rows (plan_pattern g.parts.plan) (plan_view g.parts.plan)) i (i + 1)
-  place_rows = start_rows_lem g.parts.plan.handed.input inside (d ∙ g.parts.horizons.last i inside) g.wide ek (omega (arith, g.from))
+  module _ (h : i < t.places) where
+    -- a sentence's
+    module _ (spans : t.outline.unbound ≡ true) (ew : w ≡ sentence_at i (get_or t.lasts.now i 0)) where
+      sentence_same : window_rows g.plan w ≡ run (start_rows (plan_pattern g.plan) (plan_view g.plan)) i (get_or t.lasts.now i 0)
+      sentence_same = let d = g.plan.handed in rw ew (sentence_runs d.input h (d.horizons.last i h) (sym d.outlined.spans ∙ spans))
 
-  place_leads : Leads m i low high N (size (plan_pattern g.parts.plan) (start_at i k (i + least))) (rows_at (plan_pattern g.parts.plan) (plan_view g.parts.plan) (start_at i k (i + least)))
-  place_leads =
-      let h = g.parts.plan.handed in
-      let r = start_run g.parts inside d (span_some h.input.pattern g.wide) ek in
-      leading _ _ _ h r.inside (table r) long
+      sentence_starts : w.starts ≡ get_or t.lasts.now i 0 - i
+      sentence_starts = rw ew refl
 
-  pub place_walk : Walk m i low high N 0 0 0 rows (length l')
-  place_walk = window_walk g.parts.plan.handed.input s (start_at i k (i + least)) (omega arith) (omega arith) (omega arith) place_rows place_leads g.room
+      pub sentence_put : PutWindow t w rows (length l')
+      sentence_put = let b = last_of g.plan h in window_put b.0 b.1 (sentence_within g.plan h ew) sentence_starts sentence_same
 
-  pub place_listed : {row : List ℕ} {r : ℕ} {l'' : List ℕ} → length l'' ≡ length l' → Walked place_walk row l' r l''
-      → Listing (plan_pattern g.parts.plan) (plan_view g.parts.plan) l (i + 1) r l''
-  unfolding place_walk
-  place_listed same w = listing_more g.parts.plan.handed.input s (start_at i k (i + least)) (omega arith) (omega arith) (omega arith) place_rows place_leads g.room same w
+      pub sentence_listed : {r : ℕ} {l'' : List ℕ} → length l'' ≡ length l' → WindowPut sentence_put l' r l''
+          → Listing (plan_pattern g.plan) (plan_view g.plan) l (i + w.places) r l''
+      unfolding sentence_put
+      sentence_listed same d =
+          let b = last_of g.plan h in
+          let q : i + w.places ≡ get_or t.lasts.now i 0 = rw ew (omega arith) in
+          rw q (listing_more b.0 b.1 (sentence_within g.plan h ew) sentence_starts sentence_same same d)
+
+    -- those with one first place
+    module _ (ew : w ≡ start_at i (min t.outline.span (get_or t.lasts.now i 0 - i)) (i + t.outline.least)) where
+      place_same : window_rows g.plan w ≡ run (start_rows (plan_pattern g.plan) (plan_view g.plan)) i (i + 1)
+      place_same =
+          let d = g.plan.handed in
+          let least = d.outlined.shortest in
+          rw ew (start_rows_lem d.input h (d.horizons.last i h) d.outlined.widest refl (omega arith))
+
+      place_starts : w.starts ≡ i + 1 - i
+      place_starts = rw ew (omega arith)
+
+      pub place_put : PutWindow t w rows (length l')
+      place_put = window_put (omega arith) (omega arith) (start_within g.plan h ew) place_starts place_same
+
+      pub place_listed : {r : ℕ} {l'' : List ℕ} → length l'' ≡ length l' → WindowPut place_put l' r l''
+          → Listing (plan_pattern g.plan) (plan_view g.plan) l (i + 1) r l''
+      unfolding place_put
+      place_listed same d = listing_more (omega arith) (omega arith) (start_within g.plan h ew) place_starts place_same same d

@@ -1,35 +1,15 @@
--- Rows of numbers in two halves, and what the loops keep of them. Assumes nothing.
-use Rattle.std.proofs.Common.{◌≡◌, ℕ, suc, ◌+◌, ◌-◌, ◌*◌, ◌^◌, ◌<◌, ◌≤◌, min, Bool, true, false, ◌&&◌, leb, List, length, get_or, set, sym, refl, ap, ◌∙◌, arith, length-set, get_or-set_other, get_or-set_same, below_more, eq-eqb, ne_eqb, le-leb}
+-- Rows of numbers, and what the loops keep of them. Assumes nothing.
+use Rattle.std.proofs.Common.{◌≡◌, ℕ, zero, suc, ◌+◌, ◌-◌, ◌^◌, ◌<◌, ◌≤◌, min, Bool, true, false, ◌&&◌, leb, List, length, get_or, take, set, sum, sym, refl, ◌∙◌, arith, length-set, get_or-set_other, get_or-set_same, below_more, eq-eqb, ne_eqb}
+use mir.Val.{bool_byte}
 use native.Mathlib.Nat.{sub_self}
 use native.Mathlib.Decide.{ℕ_discrete}
-use borrow.Author.Tests.{lt-leb}
 use Rattle.basics.specs.Sums.{total, rest}
+use Rattle.std.proofs.lemmas.List.Sums.{sum_by_more}
 use Rattle.basics.specs.Laws.Sums.{total_split, rest_step}
 use Rattle.basics.specs.Choice.{when}
-use Rattle.matching.proofs.Laws.Enumeration.{each_length, each_at}
-use Rattle.counting.specs.Steps.Numbers.{val, numbers}
+use Rattle.counting.specs.Steps.Numbers.{val}
 use Rattle.counting.specs.Steps.Fits.{fitted}
-use Rattle.counting.specs.Steps.Rows.{Room, Ended, Falling, Spread, Summable, Summed}
-
--- ---- the numbers as a list
-
-module _ (H L : List ℕ) (n : ℕ) where
-  pub numbers-length : length (numbers H L n) ≡ n
-  numbers-length = each_length (val H L) 0 n
-
-  pub numbers_at : (i : ℕ) → i < n → get_or (numbers H L n) i 0 ≡ val H L i
-  numbers_at i h = let e : 0 + i ≡ i = omega arith in each_at (val H L) 0 n i h ∙ ap (val H L) e
-
--- ---- a store to both halves
-
-module _ (H L : List ℕ) (i h l : ℕ) where
-  pub val_same : i < length H → i < length L → val (set H i h) (set L i l) i ≡ h * 2 ^ 64 + l
-  unfolding val
-  val_same a b = rw (get_or-set_same H i h 0 a, get_or-set_same L i l 0 b)
-
-  pub val_other : (k : ℕ) → (k ≡ i → ⊥) → val (set H i h) (set L i l) k ≡ val H L k
-  unfolding val
-  val_other k n = rw (get_or-set_other H i k h 0 n, get_or-set_other L i k l 0 n)
+use Rattle.counting.specs.Steps.Rows.{Falling, Summable}
 
 -- ---- the sums of a row: done from i on
 
@@ -37,165 +17,121 @@ pub rest_stop : (v : ℕ → ℕ) (n : ℕ) → rest v n n ≡ 0
 unfolding rest total
 rest_stop v n = rw (sub_self n)
 
-pub record Summing (n : ℕ) (H₀ L₀ : List ℕ) (i : ℕ) (H L : List ℕ) : Type 0 where
-  pub high : length H ≡ length H₀
-  pub low : length L ≡ length L₀
+pub record Summing (n : ℕ) (N₀ : List ℕ) (i : ℕ) (N : List ℕ) : Type 0 where
+  pub long : length N ≡ length N₀
   pub inside : i ≤ n
-  pub done : (k : ℕ) → i ≤ k → k ≤ n → val H L k ≡ rest (val H₀ L₀) n k
-  pub todo : (k : ℕ) → k < i → val H L k ≡ val H₀ L₀ k
+  pub done : (k : ℕ) → i ≤ k → k ≤ n → val N k ≡ rest (val N₀) n k
+  pub todo : (k : ℕ) → k < i → val N k ≡ val N₀ k
 
-pub sum_begin : {n : ℕ} {H L : List ℕ} → Summable n H L → Summing n H L n H L
-sum_begin {n} {H} {L} s = record {
-  high = refl;
-  low = refl;
+pub sum_begin : {n : ℕ} {N : List ℕ} → Summable n N → Summing n N n N
+sum_begin {n} {N} s = record {
+  long = refl;
   inside = omega arith;
-  done = λ k a b. let e : k ≡ n = omega arith in rw e (s.stop ∙ sym (rest_stop (val H L) n));
+  done = λ k a b. let e : k ≡ n = omega arith in rw e (s.stop ∙ sym (rest_stop (val N) n));
   todo = λ k h. refl;
 }
 
-module _ {n : ℕ} {H₀ L₀ : List ℕ} {i : ℕ} {H L : List ℕ} (s : Summing n H₀ L₀ i H L) (pos : 0 < i) where
-  sum_next : val H L (i - 1) + val H L i ≡ rest (val H₀ L₀) n (i - 1)
+module _ {n : ℕ} {N₀ : List ℕ} {i : ℕ} {N : List ℕ} (s : Summing n N₀ i N) (pos : 0 < i) where
+  sum_next : val N (i - 1) + val N (i - 1 + 1) ≡ rest (val N₀) n (i - 1)
   sum_next =
       let e : suc (i - 1) ≡ i = omega arith in
+      let d : i - 1 + 1 ≡ i = omega arith in
       let a = s.inside in
-      let r = rw e at (rest_step (val H₀ L₀) n (i - 1) (omega arith)) in
-      omega (arith, r, s.todo (i - 1) (omega arith), s.done i (omega arith) (omega arith))
+      let r = rw e at (rest_step (val N₀) n (i - 1) (omega arith)) in
+      rw d (omega (arith, r, s.todo (i - 1) (omega arith), s.done i (omega arith) (omega arith)))
 
-  pub sum_fits : Summable n H₀ L₀ → val H L (i - 1) + val H L i < 2 ^ 128
+  pub sum_fits : Summable n N₀ → val N (i - 1) + val N (i - 1 + 1) < 2 ^ 128
   sum_fits b = let a = s.inside in rw sum_next (b.fits (i - 1) (omega arith))
 
-  pub sum_more : Room n H₀ L₀ → (h l : ℕ) → h * 2 ^ 64 + l ≡ val H L (i - 1) + val H L i → Summing n H₀ L₀ (i - 1) (set H (i - 1) h) (set L (i - 1) l)
-  sum_more room h l e =
+  pub sum_more : n < length N₀ → Summing n N₀ (i - 1) (set N (i - 1) (val N (i - 1) + val N (i - 1 + 1)))
+  sum_more room =
       let a = s.inside in
-      let rh = room.high in
-      let rl = room.low in
-      let b = s.high in
-      let c = s.low in
+      let b = s.long in
+      let x = val N (i - 1) + val N (i - 1 + 1) in
       record {
-        high = simp length-set s.high;
-        low = simp length-set s.low;
+        long = simp length-set s.long;
         inside = omega arith;
-        done = λ k x y. elim (ℕ_discrete k (i - 1)) [
-          | yes q ↦ rw q (val_same H L (i - 1) h l (omega arith) (omega arith) ∙ e ∙ sum_next)
-          | no q ↦ val_other H L (i - 1) h l k q ∙ s.done k (omega arith) y
+        done = λ k h l. elim (ℕ_discrete k (i - 1)) [
+          | yes q ↦ rw q (get_or-set_same N (i - 1) x 0 (omega arith) ∙ sum_next)
+          | no q ↦ get_or-set_other N (i - 1) k x 0 q ∙ s.done k (omega arith) l
         ];
-        todo = λ k x. val_other H L (i - 1) h l k (λ q. omega arith) ∙ s.todo k (omega arith);
+        todo = λ k h. get_or-set_other N (i - 1) k x 0 (λ q. omega arith) ∙ s.todo k (omega arith);
       }
-
-pub summed : {n : ℕ} {H₀ L₀ : List ℕ} {i : ℕ} {H L : List ℕ} → Summing n H₀ L₀ i H L → i ≤ 0 → Summed n H₀ L₀ H L
-summed s z = record { sums = λ k h. s.done k (omega arith) h }
 
 -- ---- the last slot's row: done below i
 
-module _ {b : Bool} (from p : ℕ) where
-  pub ending_yes : b ≡ true → from ≤ p → 1 ≡ when (b && leb from p) 1
-  unfolding when
-  ending_yes e h = rw (e, le-leb from p h)
+byte_when : (b : Bool) → bool_byte b ≡ when b 1
+unfolding when
+byte_when true = refl
+byte_when false = refl
 
-  pub ending_early : b ≡ true → p < from → 0 ≡ when (b && leb from p) 1
-  unfolding when
-  ending_early e h = rw (e, lt-leb from p h)
+-- a test as a number
+pub when_byte : {x : ℕ} {b c : Bool} → x ≡ bool_byte b → b ≡ c → x ≡ when c 1
+when_byte {c = c} e d = rw d at e ∙ byte_when c
 
-  pub ending_no : b ≡ false → 0 ≡ when (b && leb from p) 1
-  unfolding when
-  ending_no e = rw e
+pub record Ending (T : List ℕ) (first from : ℕ) (N₀ : List ℕ) (i : ℕ) (N : List ℕ) : Type 0 where
+  pub long : length N ≡ length N₀
+  pub row : (k : ℕ) → k < i → val N k ≡ when (fitted T k && leb from (first + k + 1)) 1
 
-pub record Ending (T : List ℕ) (at first n from : ℕ) (H₀ L₀ : List ℕ) (i : ℕ) (H L : List ℕ) : Type 0 where
-  pub high : length H ≡ length H₀
-  pub low : length L ≡ length L₀
-  pub inside : i ≤ n
-  pub row : (k : ℕ) → k < i → val H L k ≡ when (fitted T (at + k) && leb from (first + k + 1)) 1
-
-module _ {T : List ℕ} {at first n from : ℕ} {H₀ L₀ : List ℕ} {i : ℕ} {H L : List ℕ} (s : Ending T at first n from H₀ L₀ i H L) where
-  pub end_more : Room n H₀ L₀ → i < n → (l : ℕ) → l ≡ when (fitted T (at + i) && leb from (first + i + 1)) 1
-      → Ending T at first n from H₀ L₀ (i + 1) (set H i 0) (set L i l)
-  end_more room h l e =
-      let b = s.high in
-      let c = s.low in
-      let rh = room.high in
-      let rl = room.low in
+module _ {T : List ℕ} {first from : ℕ} {N₀ : List ℕ} {i : ℕ} {N : List ℕ} (s : Ending T first from N₀ i N) (room : length T < length N₀) where
+  pub end_more : i < length T → (x : ℕ) → x ≡ when (fitted T i && leb from (first + i + 1)) 1 → Ending T first from N₀ (i + 1) (set N i x)
+  end_more h x e =
+      let b = s.long in
       record {
-        high = simp length-set s.high;
-        low = simp length-set s.low;
-        inside = omega arith;
-        row = below_more _ i (λ k x. val_other H L i 0 l k (λ q. omega arith) ∙ s.row k x) (val_same H L i 0 l (omega arith) (omega arith) ∙ omega arith);
-      }
-
-  pub ended : Room n H₀ L₀ → n ≤ i → Ended T at first n from (set H n 0) (set L n 0)
-  ended room h =
-      let b = s.high in
-      let c = s.low in
-      let rh = room.high in
-      let rl = room.low in
-      record {
-        row = λ k x. val_other H L n 0 0 k (λ q. omega arith) ∙ s.row k (omega arith);
-        stop = val_same H L n 0 0 (omega arith) (omega arith);
+        long = simp length-set s.long;
+        row = below_more _ i (λ k l. get_or-set_other N i k x 0 (λ q. omega arith) ∙ s.row k l) (get_or-set_same N i x 0 (omega arith) ∙ e);
       }
 
 -- ---- a slot's row: done below i, and the sums of the next slot's row from i on
 
-abbrev pub spread_at : List ℕ → ℕ → ℕ → ℕ → ℕ → List ℕ → List ℕ → ℕ → ℕ
-spread_at T at low high m H L i = when (fitted T (at + i)) (val H L (min (i + low + 1) m) - val H L (min (i + high + 2) m))
+abbrev pub spread_at : List ℕ → ℕ → ℕ → ℕ → List ℕ → ℕ → ℕ
+spread_at T low high m N i = when (fitted T i) (val N (min (i + low + 1) m) - val N (min (i + high + 2) m))
 
-pub record Spreading (T : List ℕ) (at low high n m : ℕ) (H₀ L₀ : List ℕ) (i : ℕ) (H L : List ℕ) : Type 0 where
-  pub long : length H ≡ length H₀
-  pub long' : length L ≡ length L₀
-  pub inside : i ≤ n
-  pub done : (k : ℕ) → k < i → val H L k ≡ spread_at T at low high m H₀ L₀ k
-  pub todo : (k : ℕ) → i ≤ k → val H L k ≡ val H₀ L₀ k
+pub record Spreading (T : List ℕ) (low high m : ℕ) (N₀ : List ℕ) (i : ℕ) (N : List ℕ) : Type 0 where
+  pub long : length N ≡ length N₀
+  pub done : (k : ℕ) → k < i → val N k ≡ spread_at T low high m N₀ k
+  pub todo : (k : ℕ) → i ≤ k → val N k ≡ val N₀ k
 
-module _ {T : List ℕ} {at low high n m : ℕ} {H₀ L₀ : List ℕ} {i : ℕ} {H L : List ℕ} (s : Spreading T at low high n m H₀ L₀ i H L) (x : i < n) (fit : n ≤ m) where
-  pub spread_more : Room m H₀ L₀ → (h l : ℕ) → h * 2 ^ 64 + l ≡ spread_at T at low high m H₀ L₀ i
-      → Spreading T at low high n m H₀ L₀ (i + 1) (set H i h) (set L i l)
-  spread_more room h l e =
-      let b = s.long in
-      let c = s.long' in
-      let rh = room.high in
-      let rl = room.low in
-      record {
-        long = simp length-set s.long;
-        long' = simp length-set s.long';
-        inside = omega arith;
-        done = below_more _ i (λ k y. val_other H L i h l k (λ q. omega arith) ∙ s.done k y) (val_same H L i h l (omega arith) (omega arith) ∙ e);
-        todo = λ k y. val_other H L i h l k (λ q. omega arith) ∙ s.todo k (omega arith);
-      }
+module _ {T : List ℕ} {low high m : ℕ} {N₀ : List ℕ} {i : ℕ} {N : List ℕ} (s : Spreading T low high m N₀ i N) (fit : length T ≤ m) (room : m < length N₀) where
+  module _ (h : i < length T) where
+    pub spread_more : (x : ℕ) → x ≡ spread_at T low high m N₀ i → Spreading T low high m N₀ (i + 1) (set N i x)
+    spread_more x e =
+        let b = s.long in
+        record {
+          long = simp length-set s.long;
+          done = below_more _ i (λ k l. get_or-set_other N i k x 0 (λ q. omega arith) ∙ s.done k l) (get_or-set_same N i x 0 (omega arith) ∙ e);
+          todo = λ k l. get_or-set_other N i k x 0 (λ q. omega arith) ∙ s.todo k (omega arith);
+        }
 
-  module _ (wide : low ≤ high) {a b : ℕ} (ea : a ≡ min (i + low + 1) m) (eb : b ≡ min (i + high + 2) m) where
     -- the two sums stand in order
-    pub spread_order : Falling m H₀ L₀ → val H L b ≤ val H L a
-    spread_order f = rw (s.todo a (omega arith), s.todo b (omega arith)) (f.falls a b (omega arith) (omega arith))
+    pub spread_order : low ≤ high → Falling m N₀ → val N (min (i + high + 2) m) ≤ val N (min (i + low + 1) m)
+    spread_order l f =
+        rw (s.todo (min (i + low + 1) m) (omega arith), s.todo (min (i + high + 2) m) (omega arith))
+        (f.falls (min (i + low + 1) m) (min (i + high + 2) m) (omega arith) (omega arith))
 
-    pub spread_take : (v : ℕ) → get_or T (at + i) 0 ≡ 1 → v ≡ val H L a - val H L b → v ≡ spread_at T at low high m H₀ L₀ i
+    pub spread_take : get_or T i 0 ≡ 1 → val N (min (i + low + 1) m) - val N (min (i + high + 2) m) ≡ spread_at T low high m N₀ i
     unfolding when
-    spread_take v q d =
-        let y = eq-eqb (get_or T (at + i) 0) 1 q in
-        let za : val H L a ≡ val H₀ L₀ (min (i + low + 1) m) = s.todo a (omega arith) ∙ ap (val H₀ L₀) ea in
-        let zb : val H L b ≡ val H₀ L₀ (min (i + high + 2) m) = s.todo b (omega arith) ∙ ap (val H₀ L₀) eb in
-        rw y (omega arith)
+    spread_take q =
+        let y = eq-eqb (get_or T i 0) 1 q in
+        rw (y, s.todo (min (i + low + 1) m) (omega arith), s.todo (min (i + high + 2) m) (omega arith))
 
-pub spread_skip : (T : List ℕ) (at low high m : ℕ) (H L : List ℕ) (i : ℕ) → (get_or T (at + i) 0 ≡ 1 → ⊥) → 0 * 2 ^ 64 + 0 ≡ spread_at T at low high m H L i
-unfolding when
-spread_skip T at low high m H L i q = rw (ne_eqb (get_or T (at + i) 0) 1 q)
+    pub spread_skip : (get_or T i 0 ≡ 1 → ⊥) → 0 ≡ spread_at T low high m N₀ i
+    unfolding when
+    spread_skip q = rw (ne_eqb (get_or T i 0) 1 q)
 
-pub spreaded : {T : List ℕ} {at low high n m : ℕ} {H₀ L₀ : List ℕ} {i : ℕ} {H L : List ℕ} → Spreading T at low high n m H₀ L₀ i H L → n ≤ m → Room m H₀ L₀ → n ≤ i
-    → Spread T at low high n m H₀ L₀ (set H n 0) (set L n 0)
-spreaded {n = n} {H = H} {L = L} s fit room h =
-    let b = s.long in
-    let c = s.long' in
-    let rh = room.high in
-    let rl = room.low in
-    record {
-      row = λ k x. val_other H L n 0 0 k (λ q. omega arith) ∙ s.done k (omega arith);
-      stop = val_same H L n 0 0 (omega arith) (omega arith);
-    }
+-- ---- the sum of the first n numbers
 
--- ---- the sum of a row: s is that of its first i numbers
+total_last : (n : ℕ) (v : ℕ → ℕ) → total (n + 1) v 0 ≡ total n v 0 + v n
+unfolding total
+total_last n v = omega (arith, total_split n 1 (n + 1) v 0 n refl (omega arith))
 
-module _ (u : ℕ → ℕ) (n i : ℕ) {s : ℕ} (e : s ≡ total i u 0) (h : i < n) where
-  pub total_more : s + u i ≡ total (i + 1) u 0
-  unfolding total
-  total_more = omega (arith, total_split i 1 (i + 1) u 0 i refl (omega arith))
+total_nothing : (v : ℕ → ℕ) (p : ℕ) → total zero v p ≡ 0
+unfolding total
+total_nothing v p = refl
 
-  -- no part is more than the whole
-  pub total_inside : s + u i ≤ total n u 0
-  total_inside = rw total_more (omega (arith, total_split (i + 1) (n - (i + 1)) n u 0 (i + 1) (omega arith) (omega arith)))
+pub sum_total : (N : List ℕ) (n : ℕ) → n ≤ length N → sum (take n N) ≡ total n (val N) 0
+sum_total N zero h = sym (total_nothing (val N) 0)
+sum_total N (suc n) h =
+    let e : suc n ≡ n + 1 = omega arith in
+    let a = sum_by_more (λ (x : ℕ). x) N n 0 (omega arith) in
+    rw e (omega (arith, a, total_last n (val N), sum_total N n (omega arith)))

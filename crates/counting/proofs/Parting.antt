@@ -1,6 +1,7 @@
--- What the runs over a text are handed: the windows that it is parted into, a sentence or the places that a row can span, and the rows that
+-- What the runs over a text are lent: the windows that it is parted into, a sentence or the places that a row can span, and the rows that
 -- start there. Assumes nothing.
-use Rattle.std.proofs.Common.{◌≡◌, ℕ, zero, suc, ◌+◌, ◌-◌, ◌*◌, ◌<◌, ◌≤◌, min, true, false, ltb, List, [], length, get_or, sym, ap, ◌∙◌, true≢false, arith, ne_eqb}
+use Rattle.std.proofs.Common.{◌≡◌, ℕ, zero, suc, ◌+◌, ◌-◌, ◌*◌, ◌<◌, ◌≤◌, min, true, false, ltb, List, [], length, get_or, sym, refl, ap, ◌∙◌, true≢false, arith, ne_eqb}
+use Rattle.std.specs.Borrow.{Bor}
 use mathlib.Core.Bool.{and-false}
 use native.Mathlib.Decide.{dec_lt}
 use Rattle.pattern.specs.declared.Pattern.{Pattern}
@@ -14,32 +15,34 @@ use Rattle.matching.proofs.Laws.Branches.{length-branches, tree}
 use Rattle.matching.proofs.Laws.Cover.{starting_each, starting_all}
 use Rattle.matching.proofs.Laws.Sentences.{horizon_is, horizon_past, horizon_inside, horizon_same}
 use Rattle.counting.specs.declared.gaps.Outline.{Outline}
+use Rattle.counting.specs.declared.tables.Tables.{Tables}
 use Rattle.counting.specs.declared.window.Window.{Window}
 use Rattle.counting.specs.Steps.Inputs.{Input}
 use Rattle.counting.specs.Steps.Fits.{Fitted}
 use Rattle.counting.specs.Steps.Sentences.{Horizons}
 use Rattle.counting.specs.Laws.Runs.{length_empty}
-use Rattle.counting.specs.Steps.Plans.{unbound, Outlined, Known, Parted, Run}
+use Rattle.counting.specs.Steps.Plans.{unbound, Outlined, Plan, PlanOf, Within, sentence_at, start_at}
 use Rattle.counting.specs.Steps.Rows.{size, stop_at}
-use Rattle.counting.proofs.Distances.{unbound-spans}
+use Rattle.counting.proofs.Distances.{span_some, span-few, unbound-spans}
 
--- a view, its tables and the limits
-abbrev pub known : {f : Pattern} {v : View} {T E : List ℕ} → Input f v → Fitted f v T → Horizons v E → Known f v.places T E
-known {v = v} ok fit lasts = record { fits = v.fits; ends = v.ends; input = ok; table = fit; horizons = lasts }
-
--- what is known of a view and outlined of a pattern is a plan for the runs
-abbrev pub planned : {f : Pattern} {n : ℕ} {T E : List ℕ} {o : Outline} → Known f n T E → Outlined f n o → Parted f.count n o.reach o.low o.high T E
-planned {f} k o = record {
-  plan = record {
-    slots = f.slots;
-    least = f.least;
-    most = f.most;
-    fits = k.fits;
-    ends = k.ends;
-    handed = record { input = k.input; lows = o.lows; highs = o.highs; farthest = o.farthest; table = k.table };
-  };
-  horizons = k.horizons;
+-- the tables of a pattern and a view are a plan
+abbrev pub planned : {f : Pattern} {v : View} {o : Outline} {F E : Bor (List ℕ)} → Input f v → Outlined f v.places o → Fitted f v F.now → Horizons v E.now
+    → Plan (record { slots = f.count; places = v.places; outline = o; fits = F; lasts = E })
+planned {f} {v} ok o fit lasts = record {
+  slots = f.slots;
+  least = f.least;
+  most = f.most;
+  fits = v.fits;
+  ends = v.ends;
+  handed = record { input = ok; outlined = o; table = fit; horizons = lasts };
 }
+
+module _ {f : Pattern} {v : View} {t : Tables} (p : PlanOf f v t) where
+  pub slots_of : t.slots ≡ f.count
+  slots_of = ap (λ (x : Pattern). x.count) p.pattern
+
+  pub places_of : t.places ≡ v.places
+  places_of = ap (λ (x : View). x.places) p.view
 
 -- ---- the windows
 
@@ -49,21 +52,29 @@ last_inside {v} h {i} l d =
     let inside : i + 1 ≤ v.places = omega arith in
     (omega (arith, h.last i l, horizon_past v inside), omega (arith, h.last i l, horizon_inside v inside))
 
--- the places from the index i on to the end of the sentence
-abbrev pub sentence_at : ℕ → ℕ → Window
-sentence_at i e = record { first = i; places = e - i; starts = e - i; from = 0 }
+-- both kinds of windows lie in the text
+module _ {t : Tables} (g : Plan t) {i : ℕ} (h : i < t.places) where
+  pub last_of : (i < get_or t.lasts.now i 0) × (get_or t.lasts.now i 0 ≤ t.places)
+  last_of = last_inside g.handed.horizons h refl
 
--- the places that a row can span which starts at index i
-abbrev pub start_at : ℕ → ℕ → ℕ → Window
-start_at i k from = record { first = i; places = k; starts = 1; from = from }
+  pub sentence_within : {w : Window} → w ≡ sentence_at i (get_or t.lasts.now i 0) → Within t.places w
+  sentence_within e = rw e record { inside = omega (arith, last_of); starts = omega arith }
 
--- a run over them
-module _ {m n reach : ℕ} {low high T E : List ℕ} (g : Parted m n reach low high T E) {i e : ℕ} (h : i < n) (d : e ≡ get_or E i 0) where
-  abbrev pub sentence_run : Run m reach low high T (sentence_at i e)
-  sentence_run = record { n = n; plan = g.plan; inside = omega (arith, last_inside g.horizons h d); starts = omega arith }
+  -- the sentence's end
+  pub sentence_next : {w : Window} → w ≡ sentence_at i (get_or t.lasts.now i 0) → i + w.places ≡ get_or t.lasts.now i 0
+  sentence_next e = rw e (omega (arith, last_of))
 
-  abbrev pub start_run : {k from span : ℕ} → 1 ≤ span → k ≡ min span (e - i) → Run m reach low high T (start_at i k from)
-  start_run pos q = record { n = n; plan = g.plan; inside = omega (arith, last_inside g.horizons h d); starts = omega (arith, last_inside g.horizons h d) }
+  -- the next sentence is further on, and still in the text
+  pub sentence_past : {w : Window} → w ≡ sentence_at i (get_or t.lasts.now i 0) → (i < i + w.places) × (i + w.places ≤ t.places) × (t.places ≤ 20000)
+  sentence_past e = let short = g.handed.input.short in (omega (arith, sentence_next e, last_of), omega (arith, sentence_next e, last_of), short)
+
+  pub start_within : {w : Window} → w ≡ start_at i (min t.outline.span (get_or t.lasts.now i 0 - i)) (i + t.outline.least) → Within t.places w
+  start_within e =
+      let some = span_some g.handed.input.pattern g.handed.outlined.widest in
+      rw e record { inside = omega (arith, last_of); starts = omega (arith, last_of) }
+
+  pub start_few : {w : Window} → w ≡ start_at i (min t.outline.span (get_or t.lasts.now i 0 - i)) (i + t.outline.least) → w.places ≤ 961
+  start_few e = rw e (omega (arith, span-few g.handed.input.pattern g.handed.outlined.widest))
 
 module _ (f : Pattern) {i e : ℕ} (l : i ≤ e) where
   pub size-sentence : size f (sentence_at i e) 0 ≡ e - i

@@ -1,12 +1,21 @@
 -- The entries of one slot, filled from the last index to the first. Assumes nothing.
-use Rattle.std.proofs.Common.{◌≡◌, ℕ, ◌+◌, ◌-◌, ◌<◌, ◌≤◌, min, Bool, true, false, ◌&&◌, eqb, leb, List, length, get_or, set, sym, ap, ◌∙◌, arith, length-set, get_or-set_other, get_or-set_same}
+use Rattle.std.proofs.Common.{◌≡◌, ℕ, ◌+◌, ◌-◌, ◌<◌, ◌≤◌, min, Bool, true, false, ◌&&◌, eqb, leb, List, length, get_or, set, sym, ◌∙◌, arith, eq-eqb, ne_eqb, le-leb, length-set, get_or-set_other, get_or-set_same}
+use borrow.Author.Tests.{lt-leb}
 use native.Mathlib.Decide.{ℕ_discrete}
-use Rattle.counting.specs.Steps.Tables.{NextAlive, Reached, leads}
+use Rattle.counting.specs.Steps.Tables.{NextAlive, leads}
+
+-- a slot fits, and a is at most b, or not
+module _ {fit a b : ℕ} where
+  pub both_hold : fit ≡ 1 → a ≤ b → (eqb fit 1 && leb a b) ≡ true
+  both_hold e h = rw (eq-eqb fit 1 e, le-leb a b h)
+
+  pub too_far : fit ≡ 1 → b < a → (eqb fit 1 && leb a b) ≡ false
+  too_far e h = rw (eq-eqb fit 1 e, lt-leb a b h)
+
+pub not_fit : (fit a b : ℕ) → (fit ≡ 1 → ⊥) → (eqb fit 1 && leb a b) ≡ false
+not_fit fit a b n = rw (ne_eqb fit 1 n)
 
 module _ {alive : ℕ → Bool} {n : ℕ} where
-  least_none : n ≤ 20000 → NextAlive alive n n 65535
-  least_none h = record { past = omega arith; gap = λ x a b c. absurd (omega arith); here = λ c. absurd (omega arith) }
-
   least_here : (i : ℕ) → i < n → alive i ≡ true → NextAlive alive n i i
   least_here i h e = record { past = omega arith; gap = λ x a b c. absurd (omega arith); here = λ c. (h, e) }
 
@@ -47,22 +56,10 @@ module _ {alive : ℕ → Bool} {n base : ℕ} {N₀ : List ℕ} {i q : ℕ} {N 
   pub reach_later : {b : Bool} → b ≡ alive (i - 1) → b ≡ false → Reaching alive n base N₀ (i - 1) q (set N (base + (i - 1)) q)
   reach_later e t = stored (least_later pos s.next (sym e ∙ t))
 
-pub reached : {alive : ℕ → Bool} {n base : ℕ} {N₀ : List ℕ} {i q : ℕ} {N : List ℕ} → Reaching alive n base N₀ i q N → i ≤ 0 → n ≤ 20000 → base + n < length N₀
-    → Reached alive n base N₀ (set N (base + n) 65535)
-reached {alive} {n} {base} {N = N} s z short room =
-    let b = s.long in
-    record {
-      row = λ k h. elim (ℕ_discrete k n) [
-        | yes e ↦ rw (e, get_or-set_same N (base + n) 65535 0 (omega arith)) (least_none short)
-        | no e ↦ rw (get_or-set_other N (base + n) (base + k) 65535 0 (λ q. omega arith)) (s.row k (omega arith) (omega arith))
-      ];
-      above = λ k h. get_or-set_other N (base + n) k 65535 0 (λ q. omega arith) ∙ s.above k h;
-    }
-
 -- the next slot's entries are as they were
-pub lead : (T : List ℕ) (at low high m : ℕ) {n base : ℕ} {N₀ : List ℕ} {i q : ℕ} {N : List ℕ} → Reaching (leads T at low high m base N₀) n base N₀ i q N → n ≤ 20000
-    → {b : Bool} {k c : ℕ} → b ≡ (eqb (get_or T (at + (i - 1)) 0) 1 && leb c (i - 1 + high + 1)) → c ≡ get_or N (base + 20001 + k) 0 → k ≡ min (i - 1 + low + 1) m
-    → b ≡ leads T at low high m base N₀ (i - 1)
-lead T at low high m {n} {base} {N₀} {i} s h {b} {k} {c} e ec ek =
-    let d : c ≡ get_or N₀ (base + 20001 + min (i - 1 + low + 1) m) 0 = ec ∙ s.above (base + 20001 + k) (omega arith) ∙ ap (λ (z : ℕ). get_or N₀ (base + 20001 + z) 0) ek in
-    rw (← d) e
+pub lead : (T : List ℕ) (low high m : ℕ) {n base : ℕ} {N₀ : List ℕ} {i q : ℕ} {N : List ℕ} → Reaching (leads T low high m base N₀) n base N₀ i q N → n ≤ 20000
+    → (eqb (get_or T (i - 1) 0) 1 && leb (get_or N (base + 20001 + min (i - 1 + low + 1) m) 0) (i - 1 + high + 1)) ≡ leads T low high m base N₀ (i - 1)
+lead T low high m {n} {base} {N₀} {i} {N = N} s h =
+    let k = base + 20001 + min (i - 1 + low + 1) m in
+    let d : get_or N k 0 ≡ get_or N₀ k 0 = s.above k (omega arith) in
+    rw d

@@ -3,6 +3,8 @@ use Rattle.std.proofs.Common.{◌≡◌, ℕ, ◌+◌, ◌*◌, ◌<◌, ◌≤�
 use mathlib.Core.List.{map-append}
 use lib.ListN.{length-map}
 use lib.Seq.{paste, take-set-le}
+use Rattle.counting.specs.declared.walk.Trail.{Trail}
+use Rattle.counting.specs.Steps.Plans.{gap_at}
 use Rattle.counting.specs.Steps.Tables.{NextRows}
 use Rattle.counting.specs.Steps.Walks.{run, put, Walk, Walked}
 use Rattle.counting.specs.Laws.Runs.{run_none, run_skip, run_more, run-part, put-append}
@@ -41,22 +43,16 @@ module _ {j : ℕ} {row row' : List ℕ} (s : Lent j row row') (p : ℕ) where
   one_more : j < 16 → take (j + 1) (set row' j p) ≡ take j row ++ (p ∷ [])
   one_more h = let l = s.long in rw (add-one, ← s.front) (take-suc-set row' j p (omega arith))
 
-module _ {m first : ℕ} {low high N : List ℕ} {j x y done space : ℕ} where
-  -- a walk's slot and its first index are inside the table
-  pub walk_begin : Walk m first low high N j x y done space → (j < 16) × (x ≤ 20000) × (320016 ≤ length N)
-  walk_begin w =
-      let slot = w.slot in
-      (omega (arith, w.leads.few), omega (arith, w.start, w.leads.inside j slot), w.leads.long)
-
+module _ {t : Trail} {j x y done space : ℕ} where
   -- the next index to visit is q
-  pub record Going (w : Walk m first low high N j x y done space) (row l : List ℕ) (q rows : ℕ) (l' : List ℕ) : Type 0 where
+  pub record Going (w : Walk t j x y done space) (row l : List ℕ) (q rows : ℕ) (l' : List ℕ) : Type 0 where
     pub past : x ≤ q
     pub clear : (z : ℕ) → y < z → z < q → w.rows j z ≡ []
     pub here : q < 65535 → (q < w.n j) × (w.rows j q ≡ [] → ⊥)
     pub number : rows ≡ done + length (run (w.rows j) x q)
-    pub list : l' ≡ put m done (map (λ s. take j row ++ s) (run (w.rows j) x q)) l
+    pub list : l' ≡ put t.tables.slots done (map (λ s. take j row ++ s) (run (w.rows j) x q)) l
 
-  pub going_begin : (w : Walk m first low high N j x y done space) {row l : List ℕ} {v : ℕ} → v ≡ get_or N (j * 20001 + x) 0 → Going w row l v done l
+  pub going_begin : (w : Walk t j x y done space) {row l : List ℕ} {v : ℕ} → v ≡ get_or t.next.now (j * 20001 + x) 0 → Going w row l v done l
   unfolding put
   going_begin w {row} {l} {v} e =
       let h : NextRows (w.rows j) (w.n j) x v = rw e (w.leads.next j w.slot x w.start) in
@@ -70,17 +66,13 @@ module _ {m first : ℕ} {low high N : List ℕ} {j x y done space : ℕ} where
         list = rw z;
       }
 
-  module _ {w : Walk m first low high N j x y done space} {row l : List ℕ} {q rows : ℕ} {l' : List ℕ} (g : Going w row l q rows l') where
+  module _ {w : Walk t j x y done space} {row l : List ℕ} {q rows : ℕ} {l' : List ℕ} (g : Going w row l q rows l') where
     module _ (inside : q ≤ y) where
       pub going_in : (q < w.n j) × (w.rows j q ≡ [] → ⊥)
       going_in = let a = w.near in g.here (omega arith)
 
-      pub going_small : first + q < 20000
+      pub going_small : t.first + q < 20000
       going_small = let a = w.leads.inside j w.slot in let b = going_in.0 in omega arith
-
-      -- the index after it is inside the table
-      pub going_next : (j < 16) × (q + 1 ≤ 20000) × (320016 ≤ length N)
-      going_next = let small = going_small in ((walk_begin w).0, omega arith, w.leads.long)
 
       -- there is room for the rows that start there
       pub going_fits : rows + length (w.rows j q) ≤ w.room
@@ -91,25 +83,25 @@ module _ {m first : ℕ} {low high N : List ℕ} {j x y done space : ℕ} where
           omega (arith, run-part (w.rows j) x q (y + 1) d (omega arith))
 
       -- the last slot: there is room for one row more
-      pub going_room : j + 1 ≡ m → (rows * m + m ≤ space) × (rows + 1 ≤ space)
+      pub going_room : j + 1 ≡ t.tables.slots → (rows * t.tables.slots + t.tables.slots ≤ space) × (rows + 1 ≤ space)
       going_room last =
           let one = ap length (w.leads.last j last q going_in.1) in
           let fits = going_fits in
-          let a : (rows + 1) * m ≤ w.room * m = mul-le-mul_right m (omega arith) in
-          let b : (rows + 1) * 1 ≤ (rows + 1) * m = mul-le-mul (omega arith) (omega arith) in
+          let a : (rows + 1) * t.tables.slots ≤ w.room * t.tables.slots = mul-le-mul_right t.tables.slots (omega arith) in
+          let b : (rows + 1) * 1 ≤ (rows + 1) * t.tables.slots = mul-le-mul (omega arith) (omega arith) in
           let d = w.wide in
-          (omega (arith, add-mul rows 1 m), omega arith)
+          (omega (arith, add-mul rows 1 t.tables.slots), omega arith)
 
       -- an earlier slot: the next slot's walk
-      module _ (inner : j + 1 < m) {a b : ℕ} (ea : a ≡ q + get_or low (j + 1) 0 + 1) (eb : b ≡ q + get_or high (j + 1) 0 + 1) where
-        child-rows : w.rows j q ≡ map (λ r. (first + q + 1) ∷ r) (run (w.rows (j + 1)) a (b + 1))
+      module _ (inner : j + 1 < t.tables.slots) {a b : ℕ} (ea : a ≡ q + (gap_at t.tables.outline.gaps (j + 1)).low + 1) (eb : b ≡ q + (gap_at t.tables.outline.gaps (j + 1)).high + 1) where
+        child-rows : w.rows j q ≡ map (λ r. (t.first + q + 1) ∷ r) (run (w.rows (j + 1)) a (b + 1))
         child-rows = rw (ea, eb) (w.leads.step j inner q going_in.1)
 
-        pub child : {space' : ℕ} → space' ≡ space → Walk m first low high N (j + 1) a b rows space'
+        pub child : {space' : ℕ} → space' ≡ space → Walk t (j + 1) a b rows space'
         child es =
             let s = going_small in
             let gap = w.leads.gap j inner in
-            let d = ap length child-rows ∙ length-map (run (w.rows (j + 1)) a (b + 1)) (λ r. (first + q + 1) ∷ r) in
+            let d = ap length child-rows ∙ length-map (run (w.rows (j + 1)) a (b + 1)) (λ r. (t.first + q + 1) ∷ r) in
             record {
               n = w.n;
               rows = w.rows;
@@ -124,14 +116,11 @@ module _ {m first : ℕ} {low high N : List ℕ} {j x y done space : ℕ} where
             }
 
       -- once the rows are written, the next index is v
-      module _ {v : ℕ} (e : v ≡ get_or N (j * 20001 + (q + 1)) 0) where
+      module _ {v : ℕ} (e : v ≡ get_or t.next.now (j * 20001 + (q + 1)) 0) where
         following : NextRows (w.rows j) (w.n j) (q + 1) v
         following = let a = going_in.0 in rw e (w.leads.next j w.slot (q + 1) (omega arith))
 
-        pub going_on : q + 1 ≤ v
-        going_on = following.past
-
-        going_past : {r : ℕ} {l'' : List ℕ} → r ≡ rows + length (w.rows j q) → l'' ≡ put m rows (map (λ s. take j row ++ s) (w.rows j q)) l' → Going w row l v r l''
+        going_past : {r : ℕ} {l'' : List ℕ} → r ≡ rows + length (w.rows j q) → l'' ≡ put t.tables.slots rows (map (λ s. take j row ++ s) (w.rows j q)) l' → Going w row l v r l''
         going_past {r} {l''} er el =
             let pre : List ℕ → List ℕ = λ s. take j row ++ s in
             let R = run (w.rows j) x q in
@@ -146,31 +135,31 @@ module _ {m first : ℕ} {low high N : List ℕ} {j x y done space : ℕ} where
               number = rw u (er ∙ omega (arith, g.number, length-append R S));
               list =
                   el
-                  ∙ ap (put m rows (map pre S)) g.list
-                  ∙ sym (put-append (map pre R) (map pre S) m done rows l (g.number ∙ ap (λ (k : ℕ). done + k) (sym (length-map R pre))))
-                  ∙ ap (λ (T : List (List ℕ)). put m done T l) (sym (map-append pre R S) ∙ ap (map pre) (sym u));
+                  ∙ ap (put t.tables.slots rows (map pre S)) g.list
+                  ∙ sym (put-append (map pre R) (map pre S) t.tables.slots done rows l (g.number ∙ ap (λ (k : ℕ). done + k) (sym (length-map R pre))))
+                  ∙ ap (λ (T : List (List ℕ)). put t.tables.slots done T l) (sym (map-append pre R S) ∙ ap (map pre) (sym u));
             }
 
         module _ {row' : List ℕ} (s : Lent j row row') where
-          longer : take (j + 1) (set row' j (first + q + 1)) ≡ take j row ++ ((first + q + 1) ∷ [])
-          longer = let slot = w.slot in let few = w.leads.few in one_more s (first + q + 1) (omega arith)
+          longer : take (j + 1) (set row' j (t.first + q + 1)) ≡ take j row ++ ((t.first + q + 1) ∷ [])
+          longer = let slot = w.slot in let few = w.leads.few in one_more s (t.first + q + 1) (omega arith)
 
-          pub going_leaf : j + 1 ≡ m → {l'' : List ℕ} → l'' ≡ paste l' (rows * m) (set row' j (first + q + 1)) m → Going w row l v (rows + 1) l''
+          pub going_leaf : j + 1 ≡ t.tables.slots → {l'' : List ℕ} → l'' ≡ paste l' (rows * t.tables.slots) (set row' j (t.first + q + 1)) t.tables.slots → Going w row l v (rows + 1) l''
           unfolding put
           going_leaf last el =
-              let one : w.rows j q ≡ ((first + q + 1) ∷ []) ∷ [] = w.leads.last j last q going_in.1 in
-              let places = set row' j (first + q + 1) in
-              let pre : take m places ≡ take j row ++ ((first + q + 1) ∷ []) = rw (← last) longer in
-              going_past (rw one refl) (el ∙ rw (one, ← pre) (rw (take-take m m places (omega arith))))
+              let one : w.rows j q ≡ ((t.first + q + 1) ∷ []) ∷ [] = w.leads.last j last q going_in.1 in
+              let places = set row' j (t.first + q + 1) in
+              let pre : take t.tables.slots places ≡ take j row ++ ((t.first + q + 1) ∷ []) = rw (← last) longer in
+              going_past (rw one refl) (el ∙ rw (one, ← pre) (rw (take-take t.tables.slots t.tables.slots places (omega arith))))
 
-          pub going_more : (inner : j + 1 < m) {a b : ℕ} (ea : a ≡ q + get_or low (j + 1) 0 + 1) (eb : b ≡ q + get_or high (j + 1) 0 + 1) {space' : ℕ} (same : space' ≡ space)
-              {r : ℕ} {l'' : List ℕ} → Walked (child inner ea eb same) (set row' j (first + q + 1)) l' r l'' → Going w row l v r l''
+          pub going_more : (inner : j + 1 < t.tables.slots) {a b : ℕ} (ea : a ≡ q + (gap_at t.tables.outline.gaps (j + 1)).low + 1) (eb : b ≡ q + (gap_at t.tables.outline.gaps (j + 1)).high + 1) {space' : ℕ} (same : space' ≡ space)
+              {r : ℕ} {l'' : List ℕ} → Walked (child inner ea eb same) (set row' j (t.first + q + 1)) l' r l'' → Going w row l v r l''
           unfolding child
           going_more inner {a} {b} ea eb same {r} {l''} d =
               let R = run (w.rows (j + 1)) a (b + 1) in
-              let c = ap length (child-rows inner ea eb) ∙ length-map R (λ r. (first + q + 1) ∷ r) in
+              let c = ap length (child-rows inner ea eb) ∙ length-map R (λ r. (t.first + q + 1) ∷ r) in
               going_past (d.number ∙ ap (λ (k : ℕ). rows + k) (sym c))
-              (d.list ∙ ap (λ (T : List (List ℕ)). put m rows T l') (rw (longer, child-rows inner ea eb) (sym (prefixed (take j row) (first + q + 1) R))))
+              (d.list ∙ ap (λ (T : List (List ℕ)). put t.tables.slots rows T l') (rw (longer, child-rows inner ea eb) (sym (prefixed (take j row) (t.first + q + 1) R))))
 
     -- past the last index
     pub going_end : y < q → Walked w row l rows l'

@@ -1,17 +1,12 @@
 -- What the tally and the column promised before document 02, Job 8: one number of 64 bits each, and 9 where a tally was over 2 ^ 64 - 1.
-use Rattle.std.specs.Prelude.{ℕ, ◌-◌, ◌^◌, Bool, List, length, nat_lt}
+use Rattle.std.specs.Prelude.{ℕ, ◌-◌, ◌^◌, Bool, List, length, nat_lt, Result, Ok, Err}
 use Rattle.basics.specs.Choice.{pick}
 use Rattle.pattern.specs.declared.Pattern.{Pattern}
 use Rattle.pattern.specs.declared.refusal.Refusal.{Refusal}
 use Rattle.pattern.specs.declared.refusal.Refusal.TheVariants.{Tally}
-use Rattle.pattern.specs.declared.refusal.Verdict.{Verdict}
-use Rattle.pattern.specs.declared.refusal.Verdict.TheVariants.{Accepted}
-use Rattle.pattern.specs.declared.refusal.Verdict.TheVariants.{Refused as Turned}
-use Rattle.pattern.specs.Tests.{input_verdict}
+use Rattle.pattern.specs.Tests.{Verdict, input_verdict}
 use Rattle.matching.specs.Occurrences.{occurrences}
-use Rattle.counting.specs.declared.starting.Started.{Started}
-use Rattle.counting.specs.declared.total.Tallied.{Tallied}
-use Rattle.counting.specs.declared.total.Tallied.TheVariants.{Total, Refused}
+use Rattle.counting.specs.Halves.{high, low}
 use Rattle.counting.specs.Starts.{column}
 use Rattle.counting.specs.Answers.{started_after, column_by}
 
@@ -21,29 +16,24 @@ too_many_before n = nat_lt (2 ^ 64 - 1) n
 
 -- ---- the tally
 
--- its answer: one number, or why there is none
-pub data Single : Type 0 where
-  number : ℕ → Single
-  refused : Refusal → Single
-
--- the answer for so many occurrences, where the tests up to 6 come to the verdict
-abbrev pub single_after : Verdict → ℕ → Single
-single_after Accepted n = pick (too_many_before n) (refused Tally) (number n)
-single_after (Turned why) n = refused why
+-- its answer for so many occurrences, one number, where the tests up to 6 come to the verdict
+abbrev pub single_after : Verdict → ℕ → Result ℕ Refusal
+single_after (Ok tt) n = pick (too_many_before n) (Err Tally) (Ok n)
+single_after (Err why) n = Err why
 
 -- the tally
-abbrev pub tallied_before : Pattern → List ℕ → Single
+abbrev pub tallied_before : Pattern → List ℕ → Result ℕ Refusal
 tallied_before f t = single_after (input_verdict f (length t)) (length (occurrences f t))
 
--- what an answer in halves was before: 9 where the high half is not 0, else the low half
-abbrev pub narrowed : Tallied → Single
-narrowed (Total h l) = pick (nat_lt 0 h) (refused Tally) (number l)
-narrowed (Refused why) = refused why
+-- what an answer was before: 9 where its high half is not 0, else its low half
+abbrev pub narrowed : Result ℕ Refusal → Result ℕ Refusal
+narrowed (Ok n) = pick (nat_lt 0 (high n)) (Err Tally) (Ok (low n))
+narrowed (Err why) = Err why
 
 -- ---- the column
 
 -- its answer, for a list of `room` numbers
-abbrev pub started_before : Pattern → List ℕ → ℕ → Started
+abbrev pub started_before : Pattern → List ℕ → ℕ → Result ℕ Refusal
 started_before f t room = started_after (input_verdict f (length t)) (length t) (nat_lt room (length t)) (too_many_before (length (occurrences f t)))
 
 -- the caller's list at the end

@@ -5,36 +5,26 @@ ghost use Rattle.counting.specs.Steps.Fits.{SlotFitted, Fitted};
 
 use pattern::{Pattern, Slot};
 
-// Writes which words a slot takes, from the entry `at` on: 1 or 0 for each.
-fn tabulate_slot(slot: Slot, t: &[u16], at: usize, fits: &mut [u8])
-    requires { at + length t.now ≤ length fits.old }
-    ensures { SlotFitted (takes_at slot t.now) (length t.now) at fits.old fits.new }
+// The table is flat, as that of the next indexes has to be (reach.rt), so that both are entered alike. Its bytes are 1 or 0: every reader
+// makes one comparison of an entry, as it would of a bool, so that a table of bools would be no plainer.
+
+// Writes which words a slot takes, from the entry `at` on: 1 or 0 for each. The index is needed: both sides are entered by it.
+fn tabulate_slot(slot: &Slot, text: &[u16], at: usize, fits: &mut [u8])
+    requires { at + length text.now ≤ length fits.old }
+    ensures { SlotFitted (takes_at slot.now text.now) (length text.now) at fits.old fits.new }
 {
-    let n = t.len();
-    let mut i = 0;
-    while i < n {
-        let k = at + i;
-        if slot.takes(t[i]) {
-            fits[k] = 1;
-            i += 1;
-        } else {
-            fits[k] = 0;
-            i += 1;
-        }
+    for (i, word) in text.iter().enumerate() {
+        fits[at + i] = u8::from(slot.takes(*word));
     }
 }
 
 // The table of which slot fits which place, 20000 entries a slot.
-pub(crate) fn tabulate(f: Pattern, t: &[u16], fits: &mut [u8])
-    requires fact_1 { Input f (plain f t.now) }
-    requires fact_2 { 320000 ≤ length fits.old }
-    ensures { Fitted f (plain f t.now) fits.new }
+pub(crate) fn tabulate(pattern: &Pattern, text: &[u16], fits: &mut [u8])
+    requires input { Input pattern.now (plain pattern.now text.now) }
+    requires long { 320000 ≤ length fits.old }
+    ensures { Fitted pattern.now (plain pattern.now text.now) fits.new }
 {
-    let m = f.count;
-    let mut j = 0;
-    while j < m {
-        let s = f.slots[j];
-        tabulate_slot(s, t, j * 20000, fits);
-        j += 1;
+    for j in 0..pattern.count {
+        tabulate_slot(&pattern.slots[j], text, j * 20000, fits);
     }
 }

@@ -4,15 +4,17 @@
 mod column;
 mod fits;
 mod gaps;
-mod halves;
 mod listing;
+mod number;
 mod reach;
 mod sentences;
 mod starting;
+mod tables;
 mod total;
 mod walk;
 mod window;
 
 pub use listing::all;
-pub use starting::{Started, starts};
-pub use total::{Tallied, tally};
+pub use number::halves;
+pub use starting::starts;
+pub use total::tally;

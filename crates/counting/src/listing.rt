@@ -1,147 +1,98 @@
-ghost use Rattle.std.specs.Prelude.{◌≡◌, ◌<◌, ◌≤◌, length};
-ghost use Rattle.matching.specs.Occurrences.{occurrences_in};
+ghost use Rattle.std.specs.Prelude.{◌≡◌, ◌≤◌, true, length};
 ghost use Rattle.basics.specs.Written.{written};
 ghost use Rattle.counting.specs.Answers.{all_listed, all_written};
-ghost use Rattle.counting.specs.Steps.Plans.{known_view, plan_rows};
-ghost use Rattle.counting.specs.Steps.Listings.{PutWhole, PutEach, PutAll};
+ghost use Rattle.counting.specs.Steps.Plans.{plan_rows};
+ghost use Rattle.counting.specs.Steps.Listings.{Put, PutWindow, WindowPut};
 
 use crate::column::count;
-use crate::fits::tabulate;
-use crate::gaps::Outline;
 use crate::reach::reach_all;
-use crate::sentences::horizons;
-use crate::walk::walk;
+use crate::tables::Tables;
+use crate::walk::Trail;
 use crate::window::Window;
-use basics::{smaller, widen};
-use matching::Listed;
-use pattern::{Pattern, Refusal, Verdict};
+use pattern::{Pattern, Refusal};
 
-// Writes all occurrences in n places where the span limits cannot bind: by a table for each sentence.
-fn put_whole(
-    low: &[u16],
-    high: &[u16],
-    m: usize,
-    reach: usize,
-    fits: &[u8],
-    lasts: &[u16],
-    n: usize,
-    next: &mut [u16],
+// Writes the occurrences that start in a window after the rows done, by a table of the window, and answers how many are done then.
+fn put_window(
+    tables: &Tables,
+    w: Window,
+    next: &mut [u16; 320016],
+    done: usize,
     list: &mut [u16],
-)
-    requires fact_1 { PutWhole m n reach low.now high.now fits.now lasts.now (length list.old) }
-    requires fact_2 { 320016 ≤ length next.old }
-    ensures { (g : PutWhole m n reach low.now high.now fits.now lasts.now (length list.old)) → list.new ≡ written m (plan_rows g.parts.plan) list.old }
+) -> usize
+    requires { PutWindow tables.now w done (length list.old) }
+    ensures { (g : PutWindow tables.now w done (length list.old)) → WindowPut g list.old result list.new }
 {
+    reach_all(tables, w, next);
+    let trail = Trail {
+        tables: *tables,
+        next,
+        first: w.first,
+    };
     let mut row = [0u16; 16];
+    trail.walk(0, 0, w.starts - 1, &mut row, done, list)
+}
+
+// The two functions that follow go over the windows of `whole` and `each`: of a closure that both kinds were handed, a proof would not know
+// what it had written to the column or the list, and the windows are made by the same methods.
+
+// Writes all occurrences where the span limits cannot bind: by a table for each sentence.
+fn put_whole(tables: &Tables, next: &mut [u16; 320016], list: &mut [u16])
+    requires put { Put tables.now (length list.old) }
+    requires spans { tables.now.outline.unbound ≡ true }
+    ensures { (g : Put tables.now (length list.old)) → list.new ≡ written tables.now.slots (plan_rows g.plan) list.old }
+{
     let mut rows = 0;
     let mut i = 0;
-    while i < n {
-        let end = widen(lasts[i]);
-        let w = Window {
-            first: i,
-            places: end - i,
-            starts: end - i,
-            from: 0,
-        };
-        reach_all(low, high, m, reach, fits, w, next);
-        rows = walk(
-            low,
-            high,
-            next,
-            m,
-            i,
-            0,
-            0,
-            end - i - 1,
-            &mut row,
-            rows,
-            list,
-        );
-        i = end;
+    // while: each step skips to the next sentence, so no index is counted
+    while i < tables.places {
+        let w = tables.sentence(i);
+        rows = put_window(tables, w, next, rows, list);
+        i += w.places;
     }
 }
 
-// Writes all occurrences of any pattern in n places: by a table for each first place, of the places that a row can span in
-// its sentence.
-fn put_each(
-    low: &[u16],
-    high: &[u16],
-    m: usize,
-    reach: usize,
-    fits: &[u8],
-    lasts: &[u16],
-    n: usize,
-    least: usize,
-    span: usize,
-    next: &mut [u16],
-    list: &mut [u16],
-)
-    requires fact_1 { PutEach m n reach least span low.now high.now fits.now lasts.now (length list.old) }
-    requires fact_2 { 320016 ≤ length next.old }
-    ensures { (g : PutEach m n reach least span low.now high.now fits.now lasts.now (length list.old)) → list.new ≡ written m (plan_rows g.parts.plan) list.old }
+// Writes all occurrences of any pattern: by a table for each first place, of the places that a row can span in its sentence.
+fn put_each(tables: &Tables, next: &mut [u16; 320016], list: &mut [u16])
+    requires put { Put tables.now (length list.old) }
+    ensures { (g : Put tables.now (length list.old)) → list.new ≡ written tables.now.slots (plan_rows g.plan) list.old }
 {
-    let mut row = [0u16; 16];
     let mut rows = 0;
-    let mut i = 0;
-    while i < n {
-        if fits[i] == 1 {
-            let w = Window {
-                first: i,
-                places: smaller(span, widen(lasts[i]) - i),
-                starts: 1,
-                from: i + least,
-            };
-            reach_all(low, high, m, reach, fits, w, next);
-            rows = walk(low, high, next, m, i, 0, 0, 0, &mut row, rows, list);
-            i += 1;
-        } else {
-            i += 1;
+    // the index is needed: the window starts there
+    for i in 0..tables.places {
+        if tables.fits[i] == 1 {
+            rows = put_window(tables, tables.start(i), next, rows, list);
         }
     }
 }
 
-// Writes all occurrences in n places.
-fn put_all(f: Pattern, n: usize, fits: &[u8], lasts: &[u16], list: &mut [u16])
-    requires { PutAll f n fits.now lasts.now (length list.old) }
-    ensures { (g : PutAll f n fits.now lasts.now (length list.old)) → list.new ≡ written f.count (occurrences_in f (known_view g.known)) list.old }
+// Writes all occurrences. Which of the two is run is said by the pattern and the text, not chosen by a caller.
+fn put_all(tables: &Tables, list: &mut [u16])
+    requires { Put tables.now (length list.old) }
+    ensures { (g : Put tables.now (length list.old)) → list.new ≡ written tables.now.slots (plan_rows g.plan) list.old }
 {
-    let m = f.count;
-    let o = Outline::of(f, n);
-    let low = o.low;
-    let high = o.high;
     let mut next = [0u16; 320016];
-    if o.unbound {
-        put_whole(&low, &high, m, o.reach, fits, lasts, n, &mut next, list);
-        return;
+    if tables.outline.unbound {
+        put_whole(tables, &mut next, list);
+    } else {
+        put_each(tables, &mut next, list);
     }
-    put_each(
-        &low, &high, m, o.reach, fits, lasts, n, o.least, o.span, &mut next, list,
-    );
 }
 
-// All occurrences, each once, first place first, ties by the next slot (document 01: the full list).
-pub fn all(pattern: Pattern, text: &[u16], list: &mut [u16]) -> Listed
+// All occurrences, each once, first place first, ties by the next slot, and how many (document 01: the full list).
+pub fn all(pattern: Pattern, text: &[u16], list: &mut [u16]) -> Result<usize, Refusal>
     ensures value { result ≡ all_listed pattern text.now (length list.old) }
     ensures list_after { list.new ≡ all_written pattern text.now list.old }
 {
-    let verdict = pattern.check_with(text.len());
-    if let Verdict::Refused(why) = verdict {
-        return Listed::Refused(why);
-    }
-    let n = text.len();
+    pattern.check_with(text.len())?;
     let mut fits = [0u8; 320000];
-    tabulate(pattern, text, &mut fits);
     let mut lasts = [0u16; 20000];
-    horizons(text, &mut lasts);
-    let total = count(pattern, n, &fits, &lasts);
-    // more rows than 64 bits hold have no room
-    if 0 < total.hi {
-        return Listed::Refused(Refusal::ListLength(0));
+    let tables = Tables::of(&pattern, text, &mut fits, &mut lasts);
+    let total = count(&tables);
+    let room = list.len() / pattern.count;
+    if (room as u128) < total {
+        // 0: the list is at no place of the text (`all_listed`)
+        return Err(Refusal::ListLength(0));
     }
-    let rows = total.lo as usize;
-    if list.len() / pattern.count < rows {
-        return Listed::Refused(Refusal::ListLength(0));
-    }
-    put_all(pattern, n, &fits, &lasts, list);
-    Listed::Rows(rows)
+    put_all(&tables, list);
+    Ok(total as usize)
 }

@@ -12,16 +12,14 @@ fn closing(word: u16, place: usize, last: usize) -> usize
 }
 
 // The table of how far a row from each place can go: to where its sentence ends, or the text.
-pub(crate) fn horizons(t: &[u16], lasts: &mut [u16])
-    requires { (length t.now ≤ 20000) × (length t.now ≤ length lasts.old) }
-    ensures { (f : Pattern) → Horizons (plain f t.now) lasts.new }
+pub(crate) fn horizons(text: &[u16], lasts: &mut [u16])
+    requires { (length text.now ≤ 20000) × (length text.now ≤ length lasts.old) }
+    ensures { (f : Pattern) → Horizons (plain f text.now) lasts.new }
 {
-    let mut last = t.len();
-    let mut i = t.len();
-    while 0 < i {
-        let place = i;
-        i -= 1;
+    let mut last = text.len();
+    // the index is needed: it is itself the horizon that is kept
+    for i in (0..text.len()).rev() {
         lasts[i] = last as u16;
-        last = closing(t[i], place, last);
+        last = closing(text[i], i + 1, last);
     }
 }

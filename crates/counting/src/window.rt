@@ -1,10 +1,8 @@
-ghost use Rattle.std.specs.Prelude.{◌≡◌, ◌+◌, ◌-◌, ◌<◌, ◌≤◌, ◌&&◌, length, ◌==◌, nat_le};
-ghost use Rattle.basics.specs.Choice.{when};
-ghost use Rattle.counting.specs.Steps.Plans.{Run, run_pattern, run_view};
-ghost use Rattle.counting.specs.Steps.Rows.{Room, Ended, Falling, Spread, Summable, Summed, Row};
+ghost use Rattle.std.specs.Prelude.{◌-◌, ◌<◌, ◌≤◌, length};
+ghost use Rattle.counting.specs.Steps.Plans.{Plan, plan_pattern, plan_view, Within};
+ghost use Rattle.counting.specs.Steps.Rows.{Ended, Falling, Spread, Summable, Summed, Row};
 
-use crate::halves::{Wide, add, sub};
-use basics::{smaller, widen};
+use crate::tables::Tables;
 
 // Consecutive places of a text, and which rows are looked for there.
 #[derive(Clone, Copy)]
@@ -19,133 +17,81 @@ pub(crate) struct Window {
     pub from: usize,
 }
 
-// Whether the last slot may stand at the place, as a number.
-fn ending(fit: u8, from: usize, p: usize) -> u64
-    ensures { result ≡ when (fit == 1 && nat_le from p) 1 }
+// The last slot's row, of the places from `first` + 1 on that it fits or not.
+fn ends(fits: &[u8], first: usize, from: usize, row: &mut [u128])
+    requires room { length fits.now < length row.old }
+    requires short { (first ≤ 20000) × (length fits.now ≤ 20000) }
+    ensures { Ended fits.now first from row.new }
 {
-    if fit == 1 {
-        if from <= p {
-            return 1;
-        }
-        return 0;
+    // the index is needed: it says whether a row may end there
+    for i in 0..fits.len() {
+        row[i] = u128::from(fits[i] == 1 && from <= first + i + 1);
     }
-    0
+    row[fits.len()] = 0;
 }
 
-// The last slot's row.
-fn ends(fits: &[u8], at: usize, first: usize, n: usize, from: usize, hi: &mut [u64], lo: &mut [u64])
-    requires fact_1 { Room n hi.old lo.old }
-    requires fact_2 { (at + n ≤ length fits.now) × (first ≤ 20000) × (n ≤ 20000) }
-    ensures { Ended fits.now at first n from hi.new lo.new }
+// A slot's row, of the places that it fits or not, from the sums of the next slot's row of m. The index is needed: the row that is written is
+// read further on. The two loops are one but for an index each; one loop with both indexes held to m takes a third more instructions (605.8
+// against 459.1 million in counting_cases; docs/DECISIONS.md, 38).
+fn spread(fits: &[u8], low: usize, high: usize, m: usize, row: &mut [u128])
+    requires room { m < length row.old }
+    requires falling { Falling m row.old }
+    requires short { (low ≤ high) × (high < 65536) × (length fits.now ≤ m) × (m ≤ 20000) }
+    ensures { Spread fits.now low high m row.old row.new }
 {
-    let mut i = 0;
-    while i < n {
-        let k = at + i;
-        hi[i] = 0;
-        lo[i] = ending(fits[k], from, first + i + 1);
-        i += 1;
-    }
-    hi[n] = 0;
-    lo[n] = 0;
-}
-
-// A slot's row of n places from the sums of the next slot's row of m.
-fn spread(
-    fits: &[u8],
-    at: usize,
-    low: usize,
-    high: usize,
-    n: usize,
-    m: usize,
-    hi: &mut [u64],
-    lo: &mut [u64],
-)
-    requires fact_1 { Room m hi.old lo.old }
-    requires fact_2 { Falling m hi.old lo.old }
-    requires fact_3 { (at + n ≤ length fits.now) × (low ≤ high) × (high < 65536) × (n ≤ m) × (m ≤ 20000) }
-    ensures { Spread fits.now at low high n m hi.old lo.old hi.new lo.new }
-{
-    let mut i = 0;
-    while i < n {
-        let k = at + i;
-        if fits[k] == 1 {
-            let a = smaller(i + low + 1, m);
-            let b = smaller(i + high + 2, m);
-            let x = Wide {
-                hi: hi[a],
-                lo: lo[a],
-            };
-            let y = Wide {
-                hi: hi[b],
-                lo: lo[b],
-            };
-            let d = sub(x, y);
-            hi[i] = d.hi;
-            lo[i] = d.lo;
-            i += 1;
+    // from the first places on the widest gap ends inside the next slot's row, from the others past it
+    let inner = fits.len().min(m.saturating_sub(high + 2));
+    for i in 0..inner {
+        if fits[i] == 1 {
+            row[i] = row[i + low + 1] - row[i + high + 2];
         } else {
-            hi[i] = 0;
-            lo[i] = 0;
-            i += 1;
+            row[i] = 0;
         }
     }
-    hi[n] = 0;
-    lo[n] = 0;
+    for k in inner..fits.len() {
+        if fits[k] == 1 {
+            row[k] = row[(k + low + 1).min(m)] - row[m];
+        } else {
+            row[k] = 0;
+        }
+    }
+    row[fits.len()] = 0;
 }
 
 // The sums of a row, from each place on.
-fn sums(n: usize, hi: &mut [u64], lo: &mut [u64])
-    requires fact_1 { Room n hi.old lo.old }
-    requires fact_2 { Summable n hi.old lo.old }
-    ensures { Summed n hi.old lo.old hi.new lo.new }
+fn sums(n: usize, row: &mut [u128])
+    requires room { n < length row.old }
+    requires summable { Summable n row.old }
+    ensures { Summed n row.old row.new }
 {
-    let mut i = n;
-    while 0 < i {
-        let k = i;
-        i -= 1;
-        let x = Wide {
-            hi: hi[i],
-            lo: lo[i],
-        };
-        let y = Wide {
-            hi: hi[k],
-            lo: lo[k],
-        };
-        let s = add(x, y);
-        hi[i] = s.hi;
-        lo[i] = s.lo;
+    // the index is needed: each number takes its neighbour's
+    for i in (0..n).rev() {
+        row[i] += row[i + 1];
     }
 }
 
-// The first slot's row of a window: how many rows of places start at each. `reach` is how far the last of the m slots can be from
-// the first.
-pub(crate) fn ways(
-    low: &[u16],
-    high: &[u16],
-    m: usize,
-    reach: usize,
-    fits: &[u8],
-    w: Window,
-    hi: &mut [u64],
-    lo: &mut [u64],
-)
-    requires fact_1 { Run m reach low.now high.now fits.now w }
-    requires fact_2 { Room w.places hi.old lo.old }
-    ensures { (g : Run m reach low.now high.now fits.now w) → Row (run_pattern g) (run_view g) w (m - 1) 0 hi.new lo.new }
+// The first slot's row of a window: how many rows of places start at each.
+#[tactic(auto, using(crate::proofs::Counting::back_fits, crate::proofs::Counting::back_on, crate::proofs::Counting::back_small))]
+pub(crate) fn ways(tables: &Tables, w: Window, row: &mut [u128])
+    requires plan { Plan tables.now }
+    requires within { Within tables.now.places w }
+    requires room { w.places < length row.old }
+    ensures { (g : Plan tables.now) → Row (plan_pattern g) (plan_view g) w (tables.now.slots - 1) 0 row.new }
 {
-    let first = w.first;
-    let mut j = m - 1;
-    let mut r = reach;
-    let mut n = smaller(w.places, w.starts + r);
-    ends(fits, j * 20000 + first, first, n, w.from, hi, lo);
-    while 0 < j {
-        let narrow = widen(low[j]);
-        let wide = widen(high[j]);
-        j -= 1;
-        r = r - wide - 1;
-        let k = smaller(w.places, w.starts + r);
-        sums(n, hi, lo);
-        spread(fits, j * 20000 + first, narrow, wide, k, n, hi, lo);
+    let last = tables.slots - 1;
+    // how far the slot can be from the first, and how many places its row has
+    let mut reach = tables.outline.reach;
+    let mut n = w.places.min(w.starts + reach);
+    ends(tables.fits_of(last, w.first, n), w.first, w.from, row);
+    // the index is needed: slot j is reached over the gap of slot j + 1
+    for j in (0..last).rev() {
+        let gap = tables.outline.gaps[j + 1];
+        let low = usize::from(gap.low);
+        let high = usize::from(gap.high);
+        reach = reach - high - 1;
+        let k = w.places.min(w.starts + reach);
+        sums(n, row);
+        spread(tables.fits_of(j, w.first, k), low, high, n, row);
         n = k;
     }
 }

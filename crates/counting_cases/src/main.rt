@@ -2,68 +2,45 @@
 // of the widest span.
 #![tactic(auto)]
 
-use counting::{Started, Tallied};
-use matching::Listed;
+ghost use Rattle.std.specs.Prelude.{◌≤◌};
+
 use pattern::{Pattern, Refusal};
 use std::io;
 
 // A pattern of n slots that take 7, with gaps from 0 to `high`.
-fn sevens(n: usize, high: u16) -> Pattern {
+fn sevens(n: usize, high: u16) -> Result<Pattern, Refusal> {
     let word = [7u16];
-    let one = Pattern::new().with_slot(0, 0, false, &word);
-    let mut pattern = one.pattern;
-    let mut j = 1;
-    while j < n {
-        let longer = pattern.with_slot(0, high, false, &word);
-        pattern = longer.pattern;
-        j += 1;
+    let mut pattern = Pattern::new().with_slot(0, 0, false, &word)?;
+    for _ in 1..n {
+        pattern = pattern.with_slot(0, high, false, &word)?;
     }
-    pattern
+    Ok(pattern)
 }
 
-// Writes a refusal's number and place.
-fn show_refusal(rt: &impl Print, why: Refusal) -> io::Result<()> {
-    let number = why.number();
-    let place = why.place();
-    println!(rt; "refused {number} {place}")
-}
-
-// Writes two halves.
-fn show_halves(rt: &impl Print, high: u64, low: u64) -> io::Result<()> {
-    print!(rt; "{high} {low}")
-}
-
-// Writes the two halves of the tally.
+// Writes the two halves of the tally. (The programs share no crate, so that each reads alone.)
 fn show_tally(rt: &impl Print, pattern: Pattern, text: &[u16]) -> io::Result<()> {
-    let answer = counting::tally(pattern, text);
-    match answer {
-        Tallied::Total { high, low } => {
-            print!(rt; "tally ")?;
-            show_halves(rt, high, low)?;
-            println!(rt; "")
+    match counting::tally(pattern, text) {
+        Ok(total) => {
+            let (high, low) = counting::halves(total);
+            println!(rt; "tally {high} {low}")
         }
-        Tallied::Refused(why) => show_refusal(rt, why),
+        Err(why) => println!(rt; "{why}"),
     }
 }
 
-// Writes the numbers of a list in a line.
+// Writes the numbers of a list in a line, each before a space. (The programs share no crate.)
 fn show_list(rt: &impl Print, list: &[u16]) -> io::Result<()> {
-    let n = list.len();
-    let mut i = 0;
-    while i < n {
-        let x = list[i];
+    for x in list {
         print!(rt; "{x} ")?;
-        i += 1;
     }
     println!(rt; "")
 }
 
 // Writes what listing all occurrences answers, and the list then.
 fn show_all(rt: &impl Print, pattern: Pattern, text: &[u16], list: &mut [u16]) -> io::Result<()> {
-    let answer = counting::all(pattern, text, list);
-    match answer {
-        Listed::Rows(rows) => println!(rt; "rows {rows}")?,
-        Listed::Refused(why) => show_refusal(rt, why)?,
+    match counting::all(pattern, text, list) {
+        Ok(rows) => println!(rt; "rows {rows}")?,
+        Err(why) => println!(rt; "{why}")?,
     }
     show_list(rt, list)
 }
@@ -84,32 +61,34 @@ fn show_starts(
     text: &[u16],
     list: &mut [u64],
 ) -> io::Result<()> {
-    let answer = counting::starts(pattern, text, list);
-    match answer {
-        Started::Words(n) => println!(rt; "words {n}"),
-        Started::Refused(why) => show_refusal(rt, why),
+    match counting::starts(pattern, text, list) {
+        Ok(words) => println!(rt; "words {words}"),
+        Err(why) => println!(rt; "{why}"),
     }
 }
 
-// Writes the halves of a number of the column.
-fn show_number(rt: &impl Print, high: u64, low: u64) -> io::Result<()> {
-    show_halves(rt, high, low)?;
-    print!(rt; "; ")
+// Writes the halves of a word's number in the column.
+fn show_number(rt: &impl Print, list: &[u64; 9016], word: usize) -> io::Result<()>
+    requires { (1 ≤ word) × (word ≤ 4508) }
+{
+    let high = list[2 * word - 2];
+    let low = list[2 * word - 1];
+    print!(rt; "{high} {low}; ")
 }
 
 // Writes in a line the halves of words 1, 40, 41, 1000, 1001, 4489 to 4492 and 4506, and what stands after it.
-fn show_numbers(rt: &impl Print, list: [u64; 9016]) -> io::Result<()> {
-    show_number(rt, list[0], list[1])?;
-    show_number(rt, list[78], list[79])?;
-    show_number(rt, list[80], list[81])?;
-    show_number(rt, list[1998], list[1999])?;
-    show_number(rt, list[2000], list[2001])?;
-    show_number(rt, list[8976], list[8977])?;
-    show_number(rt, list[8978], list[8979])?;
-    show_number(rt, list[8980], list[8981])?;
-    show_number(rt, list[8982], list[8983])?;
-    show_number(rt, list[9010], list[9011])?;
-    show_number(rt, list[9012], list[9013])?;
+fn show_numbers(rt: &impl Print, list: &[u64; 9016]) -> io::Result<()> {
+    show_number(rt, list, 1)?;
+    show_number(rt, list, 40)?;
+    show_number(rt, list, 41)?;
+    show_number(rt, list, 1000)?;
+    show_number(rt, list, 1001)?;
+    show_number(rt, list, 4489)?;
+    show_number(rt, list, 4490)?;
+    show_number(rt, list, 4491)?;
+    show_number(rt, list, 4492)?;
+    show_number(rt, list, 4506)?;
+    show_number(rt, list, 4507)?;
     println!(rt; "")
 }
 
@@ -119,29 +98,35 @@ fn show_column(rt: &impl Print, pattern: Pattern, text: &[u16], room: usize) -> 
     if room <= 9016 {
         show_starts(rt, pattern, text, &mut list[..room])?;
     }
-    show_numbers(rt, list)
+    show_numbers(rt, &list)
 }
 
 // Texts of sevens at the limits of the tally, of the list and of the column. The first is document 01's example of 9.
-fn main(rt: HostRuntime) -> io::Result<()> {
+fn show_limits(rt: &impl Print, wide: Pattern, narrow: Pattern) -> io::Result<()> {
     let text = [7u16; 20000];
-    let wide = sevens(16, 63);
-    show_tally(&rt, wide, &text[..1000])?;
-    show_tally(&rt, wide, &text)?;
-    show_room(&rt, wide, &text[..1000], 640)?;
-    show_column(&rt, wide, &text[..1000], 2000)?;
-    let narrow = sevens(16, 10);
-    show_tally(&rt, narrow, &text[..4506])?;
-    show_tally(&rt, narrow, &text[..4507])?;
-    show_column(&rt, narrow, &text[..4506], 9016)?;
-    show_column(&rt, narrow, &text[..4506], 9012)?;
-    show_column(&rt, narrow, &text[..4506], 9011)?;
-    show_column(&rt, narrow, &text[..4506], 4506)?;
-    show_column(&rt, narrow, &text[..4507], 9016)?;
+    show_tally(rt, wide, &text[..1000])?;
+    show_tally(rt, wide, &text)?;
+    show_room(rt, wide, &text[..1000], 640)?;
+    show_column(rt, wide, &text[..1000], 2000)?;
+    show_tally(rt, narrow, &text[..4506])?;
+    show_tally(rt, narrow, &text[..4507])?;
+    show_column(rt, narrow, &text[..4506], 9016)?;
+    show_column(rt, narrow, &text[..4506], 9012)?;
+    show_column(rt, narrow, &text[..4506], 9011)?;
+    show_column(rt, narrow, &text[..4506], 4506)?;
+    show_column(rt, narrow, &text[..4507], 9016)?;
     let longest = wide.with_span(961, 961);
-    show_tally(&rt, longest, &text[..1000])?;
-    show_room(&rt, longest, &text[..1000], 640)?;
-    show_room(&rt, longest, &text[..1000], 639)?;
-    show_column(&rt, longest, &text[..1000], 9016)?;
-    show_tally(&rt, Pattern::new(), &text)
+    show_tally(rt, longest, &text[..1000])?;
+    show_room(rt, longest, &text[..1000], 640)?;
+    show_room(rt, longest, &text[..1000], 639)?;
+    show_column(rt, longest, &text[..1000], 9016)?;
+    show_tally(rt, Pattern::new(), &text)
+}
+
+// The widest gaps, and narrower ones.
+fn main(rt: HostRuntime) -> io::Result<()> {
+    match (sevens(16, 63), sevens(16, 10)) {
+        (Ok(wide), Ok(narrow)) => show_limits(&rt, wide, narrow),
+        (Err(why), _) | (_, Err(why)) => println!(rt; "{why}"),
+    }
 }

@@ -1,26 +1,24 @@
 -- Lists of calls, and what the machine answers to them.
-use Rattle.std.specs.Prelude.{ℕ, ◌≡◌, List, [], ◌∷◌}
+use Rattle.std.specs.Prelude.{ℕ, ◌≡◌, List, [], ◌∷◌, Option, Result}
 use Rattle.pattern.specs.declared.Pattern.{Pattern}
-use Rattle.pattern.specs.declared.refusal.Verdict.{Verdict}
-use Rattle.matching.specs.declared.searches.Outcome.{Outcome}
+use Rattle.pattern.specs.declared.refusal.Refusal.{Refusal}
 use Rattle.cursors.specs.declared.Cursors.{Cursors}
-use Rattle.cursors.specs.declared.Served.{Served}
-use Rattle.cursors.specs.declared.Rewound.{Rewound}
-use Rattle.cursors.specs.Machine.{next_served, rewound}
+use Rattle.cursors.specs.Machine.{Served, next_served, Rewound, rewound}
+use Rattle.pattern.specs.Tests.{Verdict}
 
 -- pattern and text come with each call of "next" and are not kept
 pub data Call : Type 0 where
   next : (client : ℕ) (pattern : Pattern) (text : List ℕ) → Call
   rewind : (client : ℕ) → Call
 
--- what a call answers besides the state: the search's outcome with its sixteen places, or whether the client was refused
+-- what a call answers besides the state: the sixteen places that the search found, if any, or whether the client was refused
 pub data Reply : Type 0 where
-  served : Outcome → List ℕ → Reply
+  served : Result (Option (List ℕ)) Refusal → Reply
   turned : Verdict → Reply
 
 -- what a call of "next" answers
 abbrev pub reply_of : Served → Reply
-reply_of r = served r.outcome r.places
+reply_of r = served r.answer
 
 -- ---- the machine
 

@@ -1,10 +1,7 @@
 -- What one client calls and is answered, among the calls of all.
-use Rattle.std.specs.Prelude.{ℕ, ◌≤◌, Bool, List, [], ◌∷◌, take, eqb}
-use Rattle.std.proofs.Math.Option.{Option, none, some}
+use Rattle.std.specs.Prelude.{ℕ, ◌≤◌, Bool, List, [], ◌∷◌, take, eqb, Option, Some, None, Ok, Err}
 use Rattle.basics.specs.Collections.{keep, select}
 use Rattle.pattern.specs.declared.refusal.Refusal.{Refusal}
-use Rattle.pattern.specs.declared.refusal.Verdict.TheVariants.{Accepted, Refused}
-use Rattle.matching.specs.declared.searches.Outcome.TheVariants.{Found, Absent, Refused as NotSearched}
 use Rattle.cursors.specs.Calls.{Call, next, rewind, Reply, served, turned}
 
 -- one of the four; a call that names none of them is refused and belongs to no client
@@ -34,15 +31,14 @@ own_replies client (call ∷ calls) (reply ∷ replies) = keep (owns client call
 -- the rows of m places that replies give
 unfoldable pub rows_given : ℕ → List Reply → List (List ℕ)
 rows_given m [] = []
-rows_given m (served Found places ∷ replies) = take m places ∷ rows_given m replies
-rows_given m (served Absent places ∷ replies) = rows_given m replies
-rows_given m (served (NotSearched why) places ∷ replies) = rows_given m replies
+rows_given m (served (Ok (Some places)) ∷ replies) = take m places ∷ rows_given m replies
+rows_given m (served (Ok None) ∷ replies) = rows_given m replies
+rows_given m (served (Err why) ∷ replies) = rows_given m replies
 rows_given m (turned verdict ∷ replies) = rows_given m replies
 
 -- why a reply refuses, if it does
 abbrev pub refusal_in : Reply → Option Refusal
-refusal_in (served Found places) = none
-refusal_in (served Absent places) = none
-refusal_in (served (NotSearched why) places) = some why
-refusal_in (turned Accepted) = none
-refusal_in (turned (Refused why)) = some why
+refusal_in (served (Ok found)) = None
+refusal_in (served (Err why)) = Some why
+refusal_in (turned (Ok tt)) = None
+refusal_in (turned (Err why)) = Some why

@@ -1,18 +1,15 @@
 -- The machine of document 01, "The editors' desk", with a number for each editor (document 02, Job 6). Here its editors are clients, and
 -- "handed out" is served.
-use Rattle.std.specs.Prelude.{ℕ, ◌+◌, ◌-◌, List, [], ◌++◌, length, get_or, take, drop, set, replicate, ltb, leb, eqb}
-use Rattle.std.proofs.Math.Option.{Option, none, some}
+use Rattle.std.specs.Prelude.{ℕ, ◌+◌, ◌-◌, List, [], ◌++◌, length, get_or, take, drop, set, replicate, ltb, leb, eqb, Option, Result, Ok, Err}
+use Rattle.std.proofs.Math.Option.{Option as Found, none, some}
 use Rattle.pattern.specs.declared.Pattern.{Pattern}
+use Rattle.pattern.specs.declared.refusal.Refusal.{Refusal}
 use Rattle.pattern.specs.declared.refusal.Refusal.TheVariants.{Client as NoClient, Served as TooMany}
-use Rattle.pattern.specs.declared.refusal.Verdict.{Verdict}
-use Rattle.pattern.specs.declared.refusal.Verdict.TheVariants.{Accepted, Refused}
-use Rattle.pattern.specs.Tests.{refuse, and_then, input_verdict}
+use Rattle.pattern.specs.Tests.{Verdict, refuse, and_then, input_verdict}
 use Rattle.matching.specs.Searches.{earliest}
 use Rattle.matching.specs.Answers.{searched_by}
 use Rattle.cursors.specs.declared.Client.{Client}
 use Rattle.cursors.specs.declared.Cursors.{Cursors}
-use Rattle.cursors.specs.declared.Served.{Served}
-use Rattle.cursors.specs.declared.Rewound.{Rewound}
 
 -- ---- the state
 
@@ -48,11 +45,11 @@ restarted before = record { marks = replicate 16 0; served = before.served }
 
 -- 14
 unfoldable pub client_verdict : ℕ → Verdict
-client_verdict client = refuse (eqb client 0) NoClient (refuse (ltb 4 client) NoClient Accepted)
+client_verdict client = refuse (eqb client 0) NoClient (refuse (ltb 4 client) NoClient (Ok tt))
 
 -- 1 to 5, 16, 6, 14 and 15, of a pattern, a text of n words, a client and the number that it was served
 unfoldable pub next_verdict : Pattern → ℕ → ℕ → ℕ → Verdict
-next_verdict f n client served = and_then (input_verdict f n) (and_then (client_verdict client) (refuse (leb 500 served) TooMany Accepted))
+next_verdict f n client served = and_then (input_verdict f n) (and_then (client_verdict client) (refuse (leb 500 served) TooMany (Ok tt)))
 
 -- ---- next
 
@@ -61,18 +58,23 @@ abbrev pub first_marks : Client → Pattern → List ℕ
 first_marks asking f = take f.count asking.marks
 
 -- the row that is next for a client: the forward search from its first marks
-abbrev pub next_row : Client → Pattern → List ℕ → Option (List ℕ)
+abbrev pub next_row : Client → Pattern → List ℕ → Found (List ℕ)
 next_row asking f t = earliest f t (first_marks asking f)
 
 -- the state that is left where the tests come to the verdict and the search to a row or none
-abbrev pub left_by : Verdict → Option (List ℕ) → Cursors → ℕ → Cursors
-left_by Accepted (some row) s client = with_client s client (moved row (client_of s client))
-left_by Accepted none s client = s
-left_by (Refused why) found s client = s
+abbrev pub left_by : Verdict → Found (List ℕ) → Cursors → ℕ → Cursors
+left_by (Ok tt) (some row) s client = with_client s client (moved row (client_of s client))
+left_by (Ok tt) none s client = s
+left_by (Err why) found s client = s
 
--- what is given: that state, beside what a search gives
-abbrev pub served_by : Verdict → Option (List ℕ) → Cursors → ℕ → Served
-served_by v found s client = record { cursors = left_by v found s client; outcome = (searched_by v found).outcome; places = (searched_by v found).places }
+-- what a call of "next" comes to: the state that it leaves, and what a search answers
+pub record Served : Type 0 where
+  pub cursors : Cursors
+  pub answer : Result (Option (List ℕ)) Refusal
+
+-- where the tests and the search come to these
+abbrev pub served_by : Verdict → Found (List ℕ) → Cursors → ℕ → Served
+served_by v found s client = record { cursors = left_by v found s client; answer = searched_by v found }
 
 -- 15 reads the number of the client that calls (document 01: next; document 02, Job 6)
 unfoldable pub next_served : Cursors → ℕ → Pattern → List ℕ → Served
@@ -80,10 +82,15 @@ next_served s client f t = served_by (next_verdict f (length t) client (client_o
 
 -- ---- rewind
 
--- what is given where the test comes to the verdict
+-- what a call of "rewind" comes to: the state that it leaves, and whether it was refused
+pub record Rewound : Type 0 where
+  pub cursors : Cursors
+  pub verdict : Verdict
+
+-- where the test comes to the verdict
 abbrev pub rewound_by : Verdict → Cursors → ℕ → Rewound
-rewound_by Accepted s client = record { cursors = with_client s client (restarted (client_of s client)); verdict = Accepted }
-rewound_by (Refused why) s client = record { cursors = s; verdict = Refused why }
+rewound_by (Ok tt) s client = record { cursors = with_client s client (restarted (client_of s client)); verdict = Ok tt }
+rewound_by (Err why) s client = record { cursors = s; verdict = Err why }
 
 -- 14 alone is tested (document 01: rewind)
 unfoldable pub rewound : Cursors → ℕ → Rewound

@@ -3,16 +3,15 @@
 
 ghost use Rattle.std.specs.Prelude.{◌≡◌, ◌≤◌, ◌<◌, length, take};
 ghost use Rattle.pattern.specs.Tests.{input_verdict};
-ghost use Rattle.pattern.specs.declared.refusal.Verdict.TheVariants.{Accepted};
 ghost use Rattle.matching.specs.Answers.{searched};
-ghost use Rattle.cursors.specs.Steps.Keeping.{kept_by};
 ghost use Rattle.cursors.specs.Machine.{fresh, client_of, with_client, moved, restarted, client_verdict, next_verdict, next_row, next_served, rewound};
 
 use basics::put_row;
-use matching::{Outcome, Search, first_after};
-use pattern::{Pattern, Refusal, Verdict};
+use matching::first_after;
+use pattern::{Pattern, Refusal};
 
-// One client: its marks, one for each slot that a pattern may have, and how many occurrences it was served (document 01: handed out).
+// One client: its marks, one for each slot that a pattern may have, and how many occurrences it was served (document 01: handed out). C has
+// the same struct, so it keeps sixteen marks, of which as many count as the pattern has slots.
 #[repr(C)]
 #[derive(Clone, Copy)]
 pub struct Client {
@@ -27,76 +26,43 @@ pub struct Cursors {
     pub clients: [Client; 4],
 }
 
-// What a call of `next` gives: the state it leaves, what the search came to and the occurrence it found, as a search gives it.
-#[derive(Clone, Copy)]
-pub struct Served {
-    pub cursors: Cursors,
-    pub outcome: Outcome,
-    pub places: [u16; 16],
-}
-
-// What a call of `rewind` gives: the state it leaves, and whether it was refused.
-#[derive(Clone, Copy)]
-pub struct Rewound {
-    pub cursors: Cursors,
-    pub verdict: Verdict,
-}
-
 // Test 14.
-fn client_verdict(client: usize) -> Verdict
+#[tactic(auto, unfolding(crate::specs::Machine::client_verdict))]
+fn client_verdict(client: usize) -> Result<(), Refusal>
     ensures { result ≡ client_verdict client }
 {
-    if client == 0 {
-        return Verdict::Refused(Refusal::Client);
+    if (1..=Cursors::CLIENTS).contains(&client) {
+        return Ok(());
     }
-    if Cursors::CLIENTS < client {
-        return Verdict::Refused(Refusal::Client);
-    }
-    Verdict::Accepted
-}
-
-// What a search leaves of a client: as it moved where an occurrence was found, else as it was.
-fn kept(outcome: Outcome, before: Client, after: Client) -> Client
-    ensures { result ≡ kept_by outcome before after }
-{
-    match outcome {
-        Outcome::Found => after,
-        Outcome::Absent => before,
-        Outcome::Refused(_) => before,
-    }
+    Err(Refusal::Client)
 }
 
 impl Client {
     // The first occurrence past the client's first marks, as many as the pattern has slots.
-    fn seek(self, pattern: Pattern, text: &[u16]) -> Search
-        requires { input_verdict pattern (length text.now) ≡ Accepted }
-        ensures { result ≡ searched (next_row self pattern text.now) }
+    #[tactic(auto, using(crate::proofs::Serving::few_slots, crate::proofs::Serving::sought))]
+    fn seek(&self, pattern: Pattern, text: &[u16]) -> Result<Option<[u16; 16]>, Refusal>
+        requires { input_verdict pattern (length text.now) ≡ Ok tt }
+        ensures { result ≡ Ok (searched (next_row self.now pattern text.now)) }
     {
-        let marks = self.marks;
-        let m = pattern.count;
-        first_after(pattern, text, &marks[0..m])
+        first_after(pattern, text, &self.marks[..pattern.count])
     }
 
     // The client once it was served the first m of the places.
-    fn moved(self, row: [u16; 16], m: usize) -> Self
+    fn moved(mut self, row: &[u16; 16], m: usize) -> Self
         requires { (m ≤ 16) × (self.served < 500) }
-        ensures { result ≡ moved (take m row) self }
+        ensures { result ≡ moved (take m row.now) self }
     {
-        let mut marks = self.marks;
-        put_row(&mut marks, &row, m);
-        let served = self.served + 1;
-        Client { marks, served }
+        put_row(&mut self.marks, row, m);
+        self.served += 1;
+        self
     }
 
     // The client with its marks set to 0, and its number as it was.
-    fn restarted(self) -> Self
+    fn restarted(mut self) -> Self
         ensures { result ≡ restarted self }
     {
-        let marks = [0u16; 16];
-        Client {
-            marks,
-            served: self.served,
-        }
+        self.marks = [0; 16];
+        self
     }
 }
 
@@ -121,84 +87,66 @@ impl Cursors {
     }
 
     // The client with this number.
-    fn client_of(self, client: usize) -> Client
+    fn client_of(&self, client: usize) -> Client
         requires { (1 ≤ client) × (client ≤ 4) }
-        ensures { result ≡ client_of self client }
+        ensures { result ≡ client_of self.now client }
+    {
+        self.clients[client - 1]
+    }
+
+    // Puts this in the client's place.
+    fn put_client(&mut self, client: usize, after: Client)
+        requires { (1 ≤ client) × (client ≤ 4) }
+        ensures { self.new ≡ with_client self.old client after }
     {
         let k = client - 1;
-        self.clients[k]
+        self.clients[k] = after;
     }
 
     // Tests 1 to 5, 16, 6, 14 and 15, of a client's call with a pattern and a text of so many words.
-    fn next_verdict(self, client: usize, pattern: Pattern, words: usize) -> Verdict
-        ensures { result ≡ next_verdict pattern words client (client_of self client).served }
+    #[tactic(auto, using(crate::proofs::Serving::in_range), unfolding(crate::specs::Machine::next_verdict))]
+    fn next_verdict(&self, client: usize, pattern: &Pattern, words: usize) -> Result<(), Refusal>
+        ensures { result ≡ next_verdict pattern.now words client (client_of self.now client).served }
     {
-        let input = pattern.check_with(words);
-        if let Verdict::Refused(why) = input {
-            return Verdict::Refused(why);
-        }
-        let known = client_verdict(client);
-        if let Verdict::Refused(why) = known {
-            return Verdict::Refused(why);
-        }
+        pattern.check_with(words)?;
+        client_verdict(client)?;
         let calling = self.client_of(client);
         if Cursors::SERVED <= calling.served {
-            return Verdict::Refused(Refusal::Served);
+            return Err(Refusal::Served);
         }
-        Verdict::Accepted
+        Ok(())
     }
 
-    // The state with this in the client's place.
-    fn with_client(self, client: usize, after: Client) -> Self
-        requires { (1 ≤ client) × (client ≤ 4) }
-        ensures { result ≡ with_client self client after }
+    // The next occurrence for the client: the first past its marks, to which they then move; its number is then one more. On a refusal, and
+    // where there is none, the state stays.
+    #[tactic(auto, using(crate::proofs::Serving::next_range, crate::proofs::Serving::next_input, crate::proofs::Serving::next_room), unfolding(crate::specs::Machine::next_served))]
+    pub fn next(
+        &mut self,
+        client: usize,
+        pattern: Pattern,
+        text: &[u16],
+    ) -> Result<Option<[u16; 16]>, Refusal>
+        ensures answer { result ≡ (next_served self.old client pattern text.now).answer }
+        ensures state { self.new ≡ (next_served self.old client pattern text.now).cursors }
     {
-        let k = client - 1;
-        let mut clients = self.clients;
-        clients[k] = after;
-        Cursors { clients }
-    }
-
-    // The next occurrence for the client: the first past its marks, to which they then move; its number is then one more.
-    pub fn next(self, client: usize, pattern: Pattern, text: &[u16]) -> Served
-        ensures { result ≡ next_served self client pattern text.now }
-    {
-        let verdict = self.next_verdict(client, pattern, text.len());
-        if let Verdict::Refused(why) = verdict {
-            return Served {
-                cursors: self,
-                outcome: Outcome::Refused(why),
-                places: [0u16; 16],
-            };
-        }
+        self.next_verdict(client, &pattern, text.len())?;
         let asking = self.client_of(client);
-        let found = asking.seek(pattern, text);
-        let outcome = found.outcome;
-        let places = found.places;
-        let after = asking.moved(places, pattern.count);
-        let left = kept(outcome, asking, after);
-        Served {
-            cursors: self.with_client(client, left),
-            outcome,
-            places,
-        }
+        let Some(row) = asking.seek(pattern, text)? else {
+            return Ok(None);
+        };
+        self.put_client(client, asking.moved(&row, pattern.count));
+        Ok(Some(row))
     }
 
-    // The client's marks set to 0, and its number as it was.
-    pub fn rewind(self, client: usize) -> Rewound
-        ensures { result ≡ rewound self client }
+    // The client's marks set to 0, and its number as it was. On a refusal the state stays.
+    #[tactic(auto, using(crate::proofs::Serving::in_range), unfolding(crate::specs::Machine::rewound))]
+    pub fn rewind(&mut self, client: usize) -> Result<(), Refusal>
+        ensures answer { result ≡ (rewound self.old client).verdict }
+        ensures state { self.new ≡ (rewound self.old client).cursors }
     {
-        let verdict = client_verdict(client);
-        if let Verdict::Refused(why) = verdict {
-            return Rewound {
-                cursors: self,
-                verdict: Verdict::Refused(why),
-            };
-        }
+        client_verdict(client)?;
         let before = self.client_of(client);
-        Rewound {
-            cursors: self.with_client(client, before.restarted()),
-            verdict: Verdict::Accepted,
-        }
+        self.put_client(client, before.restarted());
+        Ok(())
     }
 }

@@ -1,10 +1,12 @@
 -- Each condition of a row as its step finds it: it holds where it holds at every place, and fails where it fails at one. Assumes nothing.
-use Rattle.std.proofs.Common.{◌≡◌, ℕ, ◌+◌, ◌-◌, ◌<◌, ◌≤◌, Bool, true, false, ◌&&◌, List, length, sym, ◌∙◌, true≢false, arith, below_more, eq-eqb, ne_eqb}
+use Rattle.std.proofs.Common.{◌≡◌, ℕ, ◌+◌, ◌-◌, ◌<◌, ◌≤◌, Bool, true, false, Result, Ok, Err, refl, List, length, sym, ◌∙◌, true≢false, arith, below_more, eq-eqb, ne_eqb}
+use Rattle.std.specs.Result.{result_unwrap_or}
 use Rattle.basics.specs.Laws.Choice.{is_false}
 use Rattle.pattern.specs.declared.Pattern.{Pattern}
-use Rattle.pattern.specs.Patterns.{slot_at}
-use Rattle.matching.specs.Occurrence.{plain, takes_at, ends_at, at, word_at, Unbroken, SentenceIn}
-use Rattle.matching.specs.Occurrences.{within, each, place_fits_in, word_in, word, gap_fits, gap, span, sentence}
+use Rattle.pattern.specs.declared.refusal.Refusal.{Refusal}
+use Rattle.excerpts.specs.Answers.{if_occurrence}
+use Rattle.matching.specs.Occurrence.{plain, ends_at, at, word_at, Unbroken, SentenceIn}
+use Rattle.matching.specs.Occurrences.{each, place_fits_in, word_in, word, gap_fits, gap, sentence}
 use Rattle.matching.proofs.Laws.Tests.{each_iff, word_iff, sentence_iff}
 
 each_fails : (n : ℕ) (p : ℕ → Bool) (j : ℕ) → j < n → p j ≡ false → each n p ≡ false
@@ -16,10 +18,6 @@ module _ (f : Pattern) (t r : List ℕ) where
   -- whether the place of slot j is in the text and fits it
   abbrev pub fitting : ℕ → Bool
   fitting j = place_fits_in (plain f t) j (at r j)
-
-  pub fitting_by : {b : Bool} {p : ℕ} (j : ℕ) → p ≡ at r j → b ≡ (within 1 p (length t) && takes_at (slot_at f j) t p) → b ≡ fitting j
-  unfolding place_fits_in
-  fitting_by j e d = rw e at d
 
   pub word_true : ((j : ℕ) → j < f.count → fitting j ≡ true) → true ≡ word f t r
   unfolding word_in
@@ -40,13 +38,6 @@ module _ (f : Pattern) (r : List ℕ) where
   unfolding gap
   gap_false j h e = sym (each_fails (f.count - 1) (gap_fits f r) j h e)
 
-  -- ---- span
-
-  pub span_by : {b : Bool} {first last least most : ℕ} → first ≡ at r 0 → last ≡ at r (f.count - 1) → least ≡ f.least → most ≡ f.most
-      → b ≡ within (first + least) (last + 1) (first + most) → b ≡ span f r
-  unfolding span
-  span_by e₁ e₂ e₃ e₄ d = rw (e₁, e₂, e₃, e₄) at d
-
 module _ (f : Pattern) (t r : List ℕ) where
   -- ---- sentence
 
@@ -63,3 +54,15 @@ module _ (f : Pattern) (t r : List ℕ) where
 -- one place more without a sentence end
 pub unbroken_more : (t : List ℕ) {first place : ℕ} → Unbroken (ends_at t) first place → (word_at t place ≡ 0 → ⊥) → Unbroken (ends_at t) first (place + 1)
 unbroken_more t {first} {place} u n x a b = below_more (λ y. first < y → ends_at t y ≡ false) place (λ y l m. u y m l) (λ _. ne_eqb (word_at t place) 0 n) x b a
+
+-- ---- the answer as a Bool: a row that is refused is no occurrence
+
+pub answered_yes : {x : Result Bool Refusal} {b : Bool} → b ≡ result_unwrap_or x false → b ≡ true → x ≡ Ok true
+answered_yes {x = Ok true} e d = refl
+answered_yes {x = Ok false} e d = absurd (true≢false (sym d ∙ e))
+answered_yes {x = Err why} e d = absurd (true≢false (sym d ∙ e))
+
+pub answered_no : {A : Type 0} (x : Result Bool Refusal) {b : Bool} (y z : A) → b ≡ result_unwrap_or x false → b ≡ false → if_occurrence x y z ≡ z
+answered_no (Ok true) y z e d = absurd (true≢false (sym e ∙ d))
+answered_no (Ok false) y z e d = refl
+answered_no (Err why) y z e d = refl

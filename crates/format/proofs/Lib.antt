@@ -2,7 +2,6 @@
 mod ByteSteps
 mod LineSteps
 mod PassedSteps
-mod PartSteps
 mod SlotSteps
 mod WordSteps
 mod TextSteps

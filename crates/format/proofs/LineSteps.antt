@@ -1,6 +1,6 @@
--- A file's lines at a place: a line that is closed, one that is left open, and the end. Assumes nothing.
-use Prim.Native.Nat.{ℕ, suc, ◌+◌, ◌-◌, ◌≤◌, ◌<◌}
-use native.Mathlib.Decide.{ℕ_discrete}
+-- A file's first line, closed or left open, and the lines one by one. Assumes nothing.
+use Rattle.std.specs.Prelude.{Err, Ok, Result}
+use Prim.Native.Nat.{ℕ, suc, ◌+◌, ◌≤◌, ◌<◌}
 use native.Mathlib.Numerals.{add-one}
 use native.Mathlib.Omega.{arith}
 use mathlib.Core.Bool.{Bool, true, false}
@@ -8,16 +8,16 @@ use mathlib.Core.List.{List, [], ◌∷◌, map}
 use mathlib.Core.Path.{◌≡◌, refl, sym, ◌∙◌, ap}
 use lib.Dec.{eqb, ltb}
 use lib.ListN.{length, get_or, take, drop, set, drop_of_length-le, length-drop}
-use lib.Seq.{drop-cons, drop-drop, drop-length, paste}
+use lib.Seq.{drop-cons, paste}
 use borrow.Author.Tests.{eqb-true, le-ltb, lt-ltb, ltb-false, ltb-true}
 use Rattle.basics.specs.Choice.{pick}
 use Rattle.basics.specs.Laws.Arrays.{pasted_more as pasted-next}
 use Rattle.format.specs.Bytes.{cut, decimal, ended, lines, on_first}
-use Rattle.format.specs.Layouts.{scan}
-use Rattle.format.specs.declared.layout.Layout.{Layout}
-use Rattle.format.specs.declared.layout.Layout.TheVariants.{Right, Wrong}
+use Rattle.format.specs.Layouts.{Layout, scan}
+use Rattle.format.specs.Steps.ClosedLines.{ClosedLine, OpenLine, laid}
+use Rattle.pattern.specs.declared.refusal.Refusal.{Refusal}
 use Rattle.format.specs.declared.reader.Line.{Line}
-use Rattle.format.specs.Lines.{line_at, line_end}
+use Rattle.format.specs.Lines.{line_at}
 
 lines_cut : (t : List ℕ) → cut t 10 < length t → lines t ≡ take (cut t 10) t ∷ lines (drop (suc (cut t 10)) t)
 unfolding cut lines
@@ -57,164 +57,123 @@ ended_none (b ∷ t) p h k = go (eqb b 10) refl h (ended_none t b)
     go true e m r = absurd (omega arith)
     go false e m r = r (omega arith) (λ _. e)
 
--- ---- the line l at a place of s
-
-pub record Lined (s : List ℕ) (at : ℕ) (l : Line) : Type 0 where
-  pub is : l.end ≡ at + cut (drop at s) 10
-  pub within : l.end ≤ length s
-  pub last : l.end ≡ l.next → l.end ≡ length s
-  pub after : (l.end ≡ l.next → ⊥) → (l.end < length s) × (l.next ≡ l.end + 1)
-
--- it is left open
-pub record Open (s : List ℕ) (at : ℕ) (l : Line) : Type 0 where
-  pub is : l.end ≡ at + cut (drop at s) 10
-  pub last : l.end ≡ length s
+-- ---- the first line l
 
 -- it is closed
-pub record Closed (s : List ℕ) (at : ℕ) (l : Line) : Type 0 where
-  pub is : l.end ≡ at + cut (drop at s) 10
+pub record FirstLine (s : List ℕ) (l : Line) : Type 0 where
   pub inside : l.end < length s
   pub after : l.next ≡ l.end + 1
+  pub closed : ClosedLine s (take l.end s) (drop l.next s)
 
-pub open_line : {s : List ℕ} {at : ℕ} {l : Line} → Lined s at l → l.end ≡ l.next → Open s at l
-open_line h e = record { is = h.is; last = h.last e }
+module _ (s : List ℕ) (l : Line) (is : l ≡ line_at s 0) where
+  ends : (l.end ≡ cut s 10) × (l.next ≡ pick (ltb (cut s 10) (length s)) (cut s 10 + 1) (cut s 10))
+  unfolding line_at
+  ends = let z : 0 + cut s 10 ≡ cut s 10 = omega arith in (ap (λ (k : Line). k.end) is ∙ z, ap (λ (k : Line). k.next) is ∙ rw z)
 
-pub closed-line : {s : List ℕ} {at : ℕ} {l : Line} → Lined s at l → (l.end ≡ l.next → ⊥) → Closed s at l
-closed-line h e = record { is = h.is; inside = (h.after e).0; after = (h.after e).1 }
+  pub first_open : l.end ≡ l.next → OpenLine s
+  first_open h = go (ltb (cut s 10) (length s)) refl ends.1
+    where
+      go : (x : Bool) → ltb (cut s 10) (length s) ≡ x → l.next ≡ pick x (cut s 10 + 1) (cut s 10) → OpenLine s
+      go true q n = absurd (omega (arith, ends.0))
+      go false q n =
+          let k : length s ≤ cut s 10 = ltb-false (cut s 10) (length s) q in
+          record { none = lines_none s k; unended = λ z. ended_none s 10 k (λ y. absurd (omega arith)) }
 
-pub cut_within : (t : List ℕ) (sep : ℕ) → cut t sep ≤ length t
-unfolding cut
-cut_within [] sep = omega arith
-cut_within (b ∷ t) sep = go (eqb b sep) (cut_within t sep)
-  where
-    go : (x : Bool) → cut t sep ≤ length t → pick x 0 (suc (cut t sep)) ≤ suc (length t)
-    go true h = omega arith
-    go false h = omega arith
+  pub first_closed : (l.end ≡ l.next → ⊥) → FirstLine s l
+  first_closed h = go (ltb (cut s 10) (length s)) refl ends.1
+    where
+      go : (x : Bool) → ltb (cut s 10) (length s) ≡ x → l.next ≡ pick x (cut s 10 + 1) (cut s 10) → FirstLine s l
+      go true q n =
+          let k : cut s 10 < length s = ltb-true (cut s 10) (length s) q in
+          let e : suc (cut s 10) ≡ l.next = omega arith in
+          record {
+            inside = omega (arith, ends.0);
+            after = omega (arith, ends.0);
+            closed = record {
+              first = lines_cut s k ∙ ap (λ (j : ℕ). take j s ∷ lines (drop (suc (cut s 10)) s)) (sym ends.0) ∙ ap (λ (j : ℕ). take l.end s ∷ lines (drop j s)) e;
+              last = ended-cut s 10 k ∙ ap (λ (j : ℕ). ended (drop j s) 10) e;
+              shorter = omega (arith, length-drop l.next s);
+            };
+          }
+      go false q n = absurd (h (ends.0 ∙ sym n))
 
--- the line that is found at a place
-pub lined : (s : List ℕ) (at : ℕ) (l : Line) → l ≡ line_at s at → at ≤ length s → Lined s at l
-unfolding line_at
-lined s at l e h = go (ltb (line_end s at) (length s)) refl (ap (λ (k : Line). k.end) e) (ap (λ (k : Line). k.next) e)
-  where
-    go : (x : Bool) → ltb (line_end s at) (length s) ≡ x → l.end ≡ line_end s at → l.next ≡ pick x (line_end s at + 1) (line_end s at) → Lined s at l
-    go true q p n =
-        let k : l.end < length s = omega (arith, ltb-true (line_end s at) (length s) q) in
-        record { is = p; within = omega arith; last = λ z. absurd (omega arith); after = λ z. (k, omega arith) }
-    go false q p n =
-        let k : length s ≤ l.end = omega (arith, ltb-false (line_end s at) (length s) q) in
-        let m : l.end ≤ length s = omega (arith, cut_within (drop at s) 10, length-drop at s) in
-        record { is = p; within = m; last = λ z. omega arith; after = λ z. absurd (z (p ∙ sym n)) }
+-- ---- what a scan finds
 
--- by the test whether it is closed
-module _ {s : List ℕ} {at : ℕ} {l : Line} (is : l ≡ line_at s at) (h : at ≤ length s) where
-  pub found_open : l.end ≡ l.next → Open s at l
-  found_open e = open_line (lined s at l is h) e
+abbrev pub scanned : (List ℕ → Bool) → List ℕ → ℕ → Layout
+scanned ok s n = scan (lines s) ok (ended s 10) n
 
-  pub found_closed : (l.end ≡ l.next → ⊥) → Closed s at l
-  found_closed n = closed-line (lined s at l is h) n
-
--- ---- the lines from a place on
-
-module _ {s : List ℕ} {at : ℕ} {l : Line} (c : Closed s at l) where
-  pub closed-lines : lines (drop at s) ≡ take (l.end - at) (drop at s) ∷ lines (drop l.next s)
-  closed-lines =
-      let k : cut (drop at s) 10 ≡ l.end - at = omega (arith, c.is) in
-      let i : cut (drop at s) 10 < length (drop at s) = omega (arith, c.is, c.inside, length-drop at s) in
-      let j : at + suc (cut (drop at s) 10) ≡ l.next = omega (arith, c.is, c.after) in
-      lines_cut (drop at s) i ∙ ap (λ (n : ℕ). take n (drop at s) ∷ lines (drop (suc (cut (drop at s) 10)) (drop at s))) k
-      ∙ ap (λ (t : List ℕ). take (l.end - at) (drop at s) ∷ lines t) (drop-drop (suc (cut (drop at s) 10)) at s ∙ ap (λ (n : ℕ). drop n s) j)
-
-  pub closed-ended : (p : ℕ) → ended (drop at s) p ≡ ended (drop l.next s) 10
-  closed-ended p =
-      let i : cut (drop at s) 10 < length (drop at s) = omega (arith, c.is, c.inside, length-drop at s) in
-      let j : at + suc (cut (drop at s) 10) ≡ l.next = omega (arith, c.is, c.after) in
-      ended-cut (drop at s) p i ∙ ap (λ (t : List ℕ). ended t 10) (drop-drop (suc (cut (drop at s) 10)) at s ∙ ap (λ (n : ℕ). drop n s) j)
-
-module _ {s : List ℕ} {at : ℕ} {l : Line} (c : Open s at l) where
-  pub open_lines : lines (drop at s) ≡ []
-  open_lines = lines_none (drop at s) (omega (arith, c.is, c.last, length-drop at s))
-
-  open_ended : at < length s → ended (drop at s) 10 ≡ false
-  open_ended k = ended_none (drop at s) 10 (omega (arith, c.is, c.last, length-drop at s)) (λ z. absurd (omega (arith, length-drop at s)))
-
--- ---- what a scan finds from a place on
-
-abbrev pub scanned : (List ℕ → Bool) → List ℕ → ℕ → ℕ → Layout
-scanned ok s at n = scan (lines (drop at s)) ok (ended (drop at s) 10) n
-
-module _ {s : List ℕ} {at : ℕ} {l : Line} (ok : List ℕ → Bool) (n : ℕ) where
-  pub scan_next : Closed s at l → ok (take (l.end - at) (drop at s)) ≡ true → scanned ok s at n ≡ scanned ok s l.next (n + 1)
+module _ {s : List ℕ} (ok : List ℕ → Bool) (n : ℕ) where
+  pub scan_next : {l t : List ℕ} → ClosedLine s l t → ok l ≡ true → scanned ok s n ≡ scanned ok t (n + 1)
   unfolding scan
-  scan_next c k = rw (closed-lines c, closed-ended c 10) (simp k)
+  scan_next c k = rw (c.first, c.last) (simp k)
 
-  pub scan-wrong : Closed s at l → ok (take (l.end - at) (drop at s)) ≡ false → scanned ok s at n ≡ Wrong n
+  pub scan-wrong : {l t : List ℕ} → ClosedLine s l t → ok l ≡ false → scanned ok s n ≡ Err n
   unfolding scan
-  scan-wrong c k = rw (closed-lines c) (simp k)
+  scan-wrong c k = rw c.first (simp k)
 
-  pub scan_open : Open s at l → at < length s → scanned ok s at n ≡ Wrong n
+  pub scan_open : OpenLine s → 0 < length s → scanned ok s n ≡ Err n
   unfolding scan
-  scan_open c k = rw (open_lines c, open_ended c k)
+  scan_open c k = rw (c.none, c.unended k)
 
-pub scan_end : (s : List ℕ) (ok : List ℕ → Bool) (n : ℕ) → scanned ok s (length s) n ≡ Right n
+pub scan_end : (s : List ℕ) (ok : List ℕ → Bool) (n : ℕ) → length s ≡ 0 → scanned ok s n ≡ Ok n
 unfolding scan lines ended
-scan_end s ok n = rw (drop-length s)
+scan_end [] ok n h = refl
+scan_end (b ∷ s) ok n h = absurd (omega arith)
 
-wrong_right : (n m : ℕ) → Wrong n ≡ Right m → ⊥
-wrong_right n m e = let z : ◌≡◌ {A = ℕ} 0 1 = cc in omega arith
+wrong_right : (n m : ℕ) → ◌≡◌ {A = Layout} (Err n) (Ok m) → ⊥
+wrong_right n m e = cc
 
-right_right : {n m : ℕ} → Right n ≡ Right m → n ≡ m
+right_right : {n m : ℕ} → ◌≡◌ {A = Layout} (Ok n) (Ok m) → n ≡ m
 right_right e = cc
 
--- a scan that is right: how many lines there are
-pub scan-count : (ls : List (List ℕ)) (ok : List ℕ → Bool) (closed : Bool) (n m : ℕ) → scan ls ok closed n ≡ Right m → m ≡ n + length ls
+-- what a layout of lines answers
+pub laid_ok : {n : ℕ} {why : Refusal} → ◌≡◌ {A = Result ℕ Refusal} (Ok n) (Err why) → ⊥
+laid_ok e = cc
+
+pub laid_why : {a b : Refusal} → ◌≡◌ {A = Result ℕ Refusal} (Err a) (Err b) → a ≡ b
+laid_why e = cc
+
+same_ok : {m n : ℕ} → ◌≡◌ {A = Result ℕ Refusal} (Ok m) (Ok n) → m ≡ n
+same_ok e = cc
+
+pub laid_right : (first : ℕ) {n : ℕ} (y : Layout) → laid first y ≡ Ok n → y ≡ Ok n
+laid_right first (Ok k) e = let s = same_ok e in ap Ok s
+laid_right first (Err k) e = absurd (laid_ok (sym e))
+
+-- a scan that is right: how many lines there are, and each passes
+pub scan-count : (ls : List (List ℕ)) (ok : List ℕ → Bool) (closed : Bool) (n m : ℕ) → scan ls ok closed n ≡ Ok m → m ≡ n + length ls
 unfolding scan
 scan-count [] ok true n m e = omega (arith, right_right e)
 scan-count [] ok false n m e = absurd (wrong_right n m e)
 scan-count (l ∷ ls) ok closed n m e = go (ok l) e (scan-count ls ok closed (n + 1) m)
   where
-    go : (x : Bool) → pick x (scan ls ok closed (n + 1)) (Wrong n) ≡ Right m → (scan ls ok closed (n + 1) ≡ Right m → m ≡ n + 1 + length ls) → m ≡ n + suc (length ls)
+    go : (x : Bool) → pick x (scan ls ok closed (n + 1)) (Err n) ≡ Ok m → (scan ls ok closed (n + 1) ≡ Ok m → m ≡ n + 1 + length ls) → m ≡ n + suc (length ls)
     go true q r = omega (arith, r q)
     go false q r = absurd (wrong_right n m q)
 
--- what a scan that is right says of the line at a place
-pub record Stepped (ok : List ℕ → Bool) (s : List ℕ) (at : ℕ) (l : Line) (n m : ℕ) : Type 0 where
-  pub line : Closed s at l
-  pub good : ok (take (l.end - at) (drop at s)) ≡ true
-  pub rest : scanned ok s l.next (n + 1) ≡ Right m
-  pub fewer : n < m
+-- what a scan that is right says of the first line
+pub record Stepped (ok : List ℕ → Bool) (l t : List ℕ) (n m : ℕ) : Type 0 where
+  pub good : ok l ≡ true
+  pub rest : scanned ok t (n + 1) ≡ Ok m
 
-module _ {s : List ℕ} {at : ℕ} {l : Line} (h : Lined s at l) (inside : at < length s) (ok : List ℕ → Bool) (n m : ℕ) (right : scanned ok s at n ≡ Right m) where
-  is_closed : Closed s at l
-  is_closed = elim (ℕ_discrete l.end l.next) [
-    | yes e ↦ absurd (wrong_right n m (sym (scan_open ok n (open_line h e) inside) ∙ right))
-    | no e ↦ closed-line h e
-  ]
+pub stepped : {s l t : List ℕ} → ClosedLine s l t → (ok : List ℕ → Bool) (n m : ℕ) → scanned ok s n ≡ Ok m → Stepped ok l t n m
+stepped {s} {l} {t} c ok n m right = go (ok l) refl
+  where
+    go : (x : Bool) → ok l ≡ x → Stepped ok l t n m
+    go true q = record { good = q; rest = sym (scan_next ok n c q) ∙ right }
+    go false q = absurd (wrong_right n m (sym (scan-wrong ok n c q) ∙ right))
 
-  is_good : (x : Bool) → ok (take (l.end - at) (drop at s)) ≡ x → ok (take (l.end - at) (drop at s)) ≡ true
-  is_good true q = q
-  is_good false q = absurd (wrong_right n m (sym (scan-wrong ok n is_closed q) ∙ right))
+-- and where there is none left
+pub none_left : {s : List ℕ} → OpenLine s → (ok : List ℕ → Bool) (n m : ℕ) → scanned ok s n ≡ Ok m → n ≡ m
+none_left {s} o ok n m right = omega (arith, scan-count (lines s) ok (ended s 10) n m right, ap (λ (ls : List (List ℕ)). length ls) o.none)
 
-  pub stepped : Stepped ok s at l n m
-  stepped =
-      let g = is_good (ok (take (l.end - at) (drop at s))) refl in
-      record {
-        line = is_closed;
-        good = g;
-        rest = sym (scan_next ok n is_closed g) ∙ right;
-        fewer = omega (arith, scan-count (lines (drop at s)) ok (ended (drop at s) 10) n m right, ap (λ (ls : List (List ℕ)). length ls) (closed-lines is_closed));
-      }
+-- ---- the words of the lines
 
--- ---- the words of the lines from a place on
+abbrev pub values : List ℕ → List ℕ
+values s = map decimal (lines s)
 
-abbrev pub values : List ℕ → ℕ → List ℕ
-values s at = map decimal (lines (drop at s))
-
-pub values_next : {s : List ℕ} {at : ℕ} {l : Line} → Closed s at l → (v : ℕ) → v ≡ decimal (take (l.end - at) (drop at s)) → values s at ≡ v ∷ values s l.next
-values_next c v k = rw (closed-lines c, k)
-
-pub values_end : (s : List ℕ) → values s (length s) ≡ []
-unfolding lines
-values_end s = rw (drop-length s)
+pub values_next : {s l t : List ℕ} → ClosedLine s l t → (v : ℕ) → v ≡ decimal l → values s ≡ v ∷ values t
+values_next c v k = rw (c.first, k)
 
 -- what is left of a list, one by one
 pub record Left (ws rest : List ℕ) (n v : ℕ) : Type 0 where

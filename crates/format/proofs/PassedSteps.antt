@@ -12,7 +12,7 @@ use Rattle.basics.specs.Choice.{pick}
 use Rattle.format.specs.Bytes.{cut}
 use Rattle.format.specs.declared.reader.Line.{Line}
 use Rattle.format.specs.Lines.{line_at, line_end}
-use Rattle.format.proofs.LineSteps.{cut_within}
+use Rattle.format.proofs.ByteSteps.{cut_within}
 
 -- ---- where bytes are cut, and before
 

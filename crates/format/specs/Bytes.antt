@@ -1,5 +1,5 @@
 -- Bytes, cut at a byte: the lines of a file, the fields of a line, the numbers between commas; a number in base ten.
-use Rattle.std.specs.Prelude.{ℕ, suc, ◌+◌, ◌-◌, ◌*◌, List, [], ◌∷◌, Bool, true, false, length, get_or, ltb, leb, eqb}
+use Rattle.std.specs.Prelude.{ℕ, suc, ◌+◌, ◌-◌, ◌*◌, List, [], ◌∷◌, Option, Some, None, Bool, true, false, length, get_or, ltb, leb, eqb}
 use Rattle.basics.specs.Choice.{pick}
 
 -- ---- cutting
@@ -67,6 +67,10 @@ decimal (b ∷ s) = pick (eqb b 48) (pick (eqb (length s) 0) 0 no_number) (more 
 -- the bytes are such a number
 abbrev pub is_number : List ℕ → Bool
 is_number l = leb (decimal l) 65535
+
+-- the number, where the bytes are one
+abbrev pub number : List ℕ → Option ℕ
+number s = pick (is_number s) (Some (decimal s)) None
 
 -- the number, or 0 for what is none
 unfoldable pub value : List ℕ → ℕ

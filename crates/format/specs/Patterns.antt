@@ -1,23 +1,18 @@
 -- A pattern file (document 01: frame sheet): the pattern it shows, or why it is refused.
-use Rattle.std.specs.Prelude.{ℕ, ◌+◌, List, [], ◌∷◌, map, Bool, false, length, ltb, eqb}
+use Rattle.std.specs.Prelude.{ℕ, ◌+◌, List, [], ◌∷◌, map, Bool, false, length, ltb, eqb, Ok, Err, Result}
 use Rattle.pattern.specs.declared.slot.Slot.{Slot}
 use Rattle.pattern.specs.declared.Pattern.{Pattern}
 use Rattle.pattern.specs.declared.refusal.Refusal.{Refusal}
 use Rattle.pattern.specs.declared.refusal.Refusal.TheVariants.{Names, Values, FileLength}
-use Rattle.pattern.specs.declared.refusal.Verdict.{Verdict}
-use Rattle.pattern.specs.declared.refusal.Verdict.TheVariants.{Accepted, Refused}
-use Rattle.pattern.specs.Patterns.{empty_pattern, slot_of, first_slots}
+use Rattle.pattern.specs.Patterns.{slot_of, first_slots}
 use Rattle.pattern.specs.Words.{canonical}
 use Rattle.basics.specs.Choice.{pick}
-use Rattle.pattern.specs.Tests.{pattern_verdict}
+use Rattle.pattern.specs.Tests.{Verdict, pattern_verdict}
 use Rattle.format.specs.Bytes.{lines, ended, fields, field, value, is_number, all_numbers}
 use Rattle.format.specs.Words.{marked, word_parts}
-use Rattle.format.specs.Layouts.{scan}
+use Rattle.format.specs.Layouts.{Layout, scan}
 use Rattle.format.specs.Names.{least_name, most_name, column, span_names, slot_names, columns_of}
-use Rattle.format.specs.declared.layout.Layout.{Layout}
-use Rattle.format.specs.declared.layout.Layout.TheVariants.{Right, Wrong}
 use Rattle.format.specs.declared.names.Columns.{Columns}
-use Rattle.format.specs.declared.patterns.PatternRead.{PatternRead}
 
 -- ---- layout (10, 11)
 
@@ -57,8 +52,8 @@ pub data PatternContents : Type 0 where
 
 -- from the slots' lines ls on, whose layout was looked at: the first of them is line 4
 abbrev pub from_slots : Layout → Columns → ℕ → ℕ → List (List ℕ) → PatternContents
-from_slots (Wrong n) c least most ls = refused (Values (n + 4))
-from_slots (Right n) c least most ls = shown least most (map (read_slot c) ls)
+from_slots (Err n) c least most ls = refused (Values (n + 4))
+from_slots (Ok n) c least most ls = shown least most (map (read_slot c) ls)
 
 -- from the line of the slots' names on, which is line 3; the last line is closed or not
 abbrev pub from_slot_names : List (List ℕ) → ℕ → ℕ → Bool → PatternContents
@@ -93,26 +88,22 @@ made_slot l = canonical (stated_slot l)
 abbrev pub shown_pattern : ℕ → ℕ → List SlotLine → Pattern
 shown_pattern least most ls = record { slots = first_slots (map made_slot ls); count = length ls; least = least; most = most }
 
--- ---- the answer: 12, layout, then the tests 1 to 5 (16 never applies); a new pattern beside a refusal
-
--- a refusal
-abbrev pub refused_pattern : Refusal → PatternRead
-refused_pattern why = record { verdict = Refused why; pattern = empty_pattern }
+-- ---- the answer: 12, layout, then the tests 1 to 5 (16 never applies)
 
 -- the pattern where the tests come to the verdict
-abbrev pub judged_by : Verdict → Pattern → PatternRead
-judged_by Accepted f = record { verdict = Accepted; pattern = f }
-judged_by (Refused why) f = refused_pattern why
+abbrev pub judged_by : Verdict → Pattern → Result Pattern Refusal
+judged_by (Ok tt) f = Ok f
+judged_by (Err why) f = Err why
 
 -- the pattern by its tests
-abbrev pub judged : Pattern → PatternRead
+abbrev pub judged : Pattern → Result Pattern Refusal
 judged f = judged_by (pattern_verdict f) f
 
 -- the answer for what stands on the lines
-abbrev pub pattern_answer : PatternContents → PatternRead
-pattern_answer (refused why) = refused_pattern why
+abbrev pub pattern_answer : PatternContents → Result Pattern Refusal
+pattern_answer (refused why) = Err why
 pattern_answer (shown least most ls) = judged (shown_pattern least most ls)
 
 -- the answer for a file's bytes
-unfoldable pub pattern_read : List ℕ → PatternRead
-pattern_read s = pick (ltb 60000 (length s)) (refused_pattern FileLength) (pattern_answer (pattern_contents s))
+unfoldable pub pattern_read : List ℕ → Result Pattern Refusal
+pattern_read s = pick (ltb 60000 (length s)) (Err FileLength) (pattern_answer (pattern_contents s))

@@ -1,2 +1,3 @@
 -- The contracts of the functions inside this crate.
 pub mod ValueLines
+pub mod ClosedLines

@@ -1,16 +1,12 @@
 -- A text file (document 01: text sheet): the words it holds, or why it is refused.
-use Rattle.std.specs.Prelude.{ℕ, ◌+◌, List, [], ◌∷◌, map, Bool, length, ltb}
+use Rattle.std.specs.Prelude.{ℕ, ◌+◌, List, [], ◌∷◌, map, Bool, length, ltb, Err, Ok, Result}
 use Rattle.basics.specs.Choice.{pick}
 use Rattle.basics.specs.Written.{over}
 use Rattle.pattern.specs.declared.refusal.Refusal.{Refusal}
 use Rattle.pattern.specs.declared.refusal.Refusal.TheVariants.{TextLength, Names, Values, FileLength, WordListLength}
 use Rattle.format.specs.Bytes.{lines, ended, decimal, is_number, same}
-use Rattle.format.specs.Layouts.{scan}
+use Rattle.format.specs.Layouts.{Layout, scan}
 use Rattle.format.specs.Names.{word_name}
-use Rattle.format.specs.declared.layout.Layout.{Layout}
-use Rattle.format.specs.declared.layout.Layout.TheVariants.{Right, Wrong}
-use Rattle.format.specs.declared.texts.TextRead.{TextRead}
-use Rattle.format.specs.declared.texts.TextRead.TheVariants.{Words, Refused}
 
 -- ---- layout (10, 11)
 
@@ -21,8 +17,8 @@ pub data TextContents : Type 0 where
 
 -- from the words' lines ls on, whose layout was looked at: the first of them is line 2
 abbrev pub after_name : Layout → List (List ℕ) → TextContents
-after_name (Wrong n) ls = refused (Values (n + 2))
-after_name (Right n) ls = words (map decimal ls)
+after_name (Err n) ls = refused (Values (n + 2))
+after_name (Ok n) ls = words (map decimal ls)
 
 -- from the first line on; the last line is closed or not
 abbrev pub of_lines : List (List ℕ) → Bool → TextContents
@@ -42,16 +38,16 @@ shown_words (refused why) = []
 -- ---- the answer, with room for so many words: 12, layout, 6, 13
 
 -- the answer for what stands on the lines
-abbrev pub text_answer : TextContents → ℕ → TextRead
-text_answer (refused why) room = Refused why
+abbrev pub text_answer : TextContents → ℕ → Result ℕ Refusal
+text_answer (refused why) room = Err why
 text_answer (words ws) room =
-    pick (ltb 20000 (length ws)) (Refused TextLength)
-    (pick (ltb room (length ws)) (Refused WordListLength)
-    (Words (length ws)))
+    pick (ltb 20000 (length ws)) (Err TextLength)
+    (pick (ltb room (length ws)) (Err WordListLength)
+    (Ok (length ws)))
 
 -- the answer for a file's bytes
-unfoldable pub text_read : List ℕ → ℕ → TextRead
-text_read s room = pick (ltb 60000 (length s)) (Refused FileLength) (text_answer (text_contents s) room)
+unfoldable pub text_read : List ℕ → ℕ → Result ℕ Refusal
+text_read s room = pick (ltb 60000 (length s)) (Err FileLength) (text_answer (text_contents s) room)
 
 -- ---- the caller's list at the end: as it was, or with the words at its start
 

@@ -4,7 +4,7 @@
 mod bytes;
 mod fields;
 mod input;
-mod layout;
+mod lines;
 mod names;
 mod numbers;
 mod patterns;
@@ -13,10 +13,10 @@ mod texts;
 mod values;
 mod words;
 
-pub use input::{InputRead, read_input};
-pub use patterns::{PatternRead, read_pattern};
+pub use input::{Input, read_input};
+pub use patterns::read_pattern;
 pub use reader::{Line, Reader, line_at, next_line, past_line, resume};
-pub use texts::{TextRead, read_text};
+pub use texts::read_text;
 
 // The most bytes of a file.
 pub const FILE: usize = 60000;

@@ -11,35 +11,22 @@ pub(crate) struct Columns {
     pub words: usize,
 }
 
-// Whether a line has the names `least` and `most`.
+// Whether a line has the names `least` and `most`. A function beside `slot_names`: one for both would be handed each line's names as an array of
+// slices, and with a single call for each kind of line it would be no plainer.
 pub(crate) fn span_names(s: &[u8]) -> bool
     ensures { result ≡ span_names s.now }
 {
-    if count(s, b' ') != 2 {
-        return false;
-    }
-    if column(s, b"least") < 2 {
-        column(s, b"most") < 2
-    } else {
-        false
-    }
+    count(s, b' ') == 2 && column(s, b"least") < 2 && column(s, b"most") < 2
 }
 
 // Whether a line has the names `low`, `high` and `words`.
 pub(crate) fn slot_names(s: &[u8]) -> bool
     ensures { result ≡ slot_names s.now }
 {
-    if count(s, b' ') != 3 {
-        return false;
-    }
-    if 3 <= column(s, b"low") {
-        return false;
-    }
-    if column(s, b"high") < 3 {
-        column(s, b"words") < 3
-    } else {
-        false
-    }
+    count(s, b' ') == 3
+        && column(s, b"low") < 3
+        && column(s, b"high") < 3
+        && column(s, b"words") < 3
 }
 
 // Where the names of a slot's fields stand.

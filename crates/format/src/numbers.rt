@@ -1,50 +1,34 @@
-ghost use Rattle.std.specs.Prelude.{◌≡◌, ◌<◌};
-ghost use Rattle.format.specs.Bytes.{decimal, value};
+ghost use Rattle.std.specs.Prelude.{◌≡◌};
+ghost use Rattle.format.specs.Bytes.{is_number, number, value};
 
-// A byte as a number.
-fn wide(x: u8) -> usize
-    ensures { (result ≡ x) × (result < 256) }
+// The number that the bytes show in base ten, if they show one. Digit by digit, since `parse` also takes a sign and leading zeros, which a file
+// may not have.
+pub(crate) fn decimal(s: &[u8]) -> Option<u16>
+    ensures { result ≡ number s.now }
 {
-    x as usize
+    if s.is_empty() || (s[0] == b'0' && s.len() > 1) {
+        return None;
+    }
+    let mut v: u16 = 0;
+    for b in s {
+        if !b.is_ascii_digit() {
+            return None;
+        }
+        v = v.checked_mul(10)?.checked_add(u16::from(*b - b'0'))?;
+    }
+    Some(v)
 }
 
-// The number that the bytes show in base ten, or 65536 where they show none.
-pub(crate) fn decimal(s: &[u8]) -> usize
-    ensures { result ≡ decimal s.now }
+// Whether the bytes show a number.
+pub(crate) fn is_number(s: &[u8]) -> bool
+    ensures { result ≡ is_number s.now }
 {
-    let n = s.len();
-    if n == 0 {
-        return 65536;
-    }
-    if s[0] == b'0' {
-        if n == 1 {
-            return 0;
-        }
-        return 65536;
-    }
-    let mut v: usize = 0;
-    let mut i = 0;
-    while i < n {
-        let b = wide(s[i]);
-        if b < 48 {
-            return 65536;
-        }
-        if 57 < b {
-            return 65536;
-        }
-        v = v * 10 + (b - 48);
-        if 65535 < v {
-            return 65536;
-        }
-        i += 1;
-    }
-    v
+    decimal(s).is_some()
 }
 
-// The number that the bytes show, or 0 where they show none.
+// The number that the bytes show, or 0 where they show none. No option, since the entries that a slot's words leave hold 0.
 pub(crate) fn value(s: &[u8]) -> u16
     ensures { result ≡ value s.now }
 {
-    let v = decimal(s);
-    if v <= 65535 { v as u16 } else { 0 }
+    decimal(s).unwrap_or(0)
 }

@@ -3,14 +3,16 @@ ghost use Rattle.format.specs.Lines.{line_at};
 
 use crate::bytes::find;
 
-// A file's bytes and how far they have been read.
+// A file's bytes and how far they have been read. Public: the place stays beside the bytes, since `resume`, `next_line` and `past_line` promise
+// what they do of these two fields.
 #[derive(Clone, Copy)]
 pub struct Reader<'a> {
     pub bytes: &'a [u8],
     pub at: usize,
 }
 
-// A line: where its bytes end, and where the next line begins. The two are the same place where the line is not closed.
+// A line: where its bytes end, and where the next line begins. The two are the same place where the line is not closed. No option beside them,
+// since the struct is public and C's `bedbloomer_line` answers both places.
 #[derive(Clone, Copy)]
 pub struct Line {
     pub end: usize,
@@ -25,11 +27,10 @@ fn after_line(s: &[u8], at: usize) -> usize
     if n <= at {
         return at;
     }
-    let e = find(s, at, b'\n');
-    if e == n {
-        return e;
+    match find(s, at, b'\n') {
+        Some(e) => e + 1,
+        None => n,
     }
-    e + 1
 }
 
 // The line from a place to where the next one begins: what stands there, without the line feed.

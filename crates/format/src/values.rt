@@ -3,7 +3,7 @@ ghost use Rattle.format.specs.Patterns.{span_values, slot_values, read_slot, mad
 
 use crate::fields::{count, part};
 use crate::names::Columns;
-use crate::numbers::{decimal, value};
+use crate::numbers::{is_number, value};
 use crate::words::{all_words, count_words, first_words, marked};
 use pattern::Slot;
 
@@ -11,30 +11,19 @@ use pattern::Slot;
 pub(crate) fn span_values(s: &[u8]) -> bool
     ensures { result ≡ span_values s.now }
 {
-    if count(s, b' ') != 2 {
-        return false;
-    }
-    if decimal(part(s, b' ', 0)) <= 65535 {
-        decimal(part(s, b' ', 1)) <= 65535
-    } else {
-        false
-    }
+    count(s, b' ') == 2 && is_number(part(s, b' ', 0)) && is_number(part(s, b' ', 1))
 }
 
-// Whether a line has the values of a slot.
+// Whether a line has the values of a slot. A function beside `span_values`, since the fields have kinds and places of their own, and one for both
+// would be no plainer.
+#[tactic(auto, unfolding(crate::specs::Patterns::slot_values))]
 pub(crate) fn slot_values(s: &[u8], c: Columns) -> bool
     ensures { result ≡ slot_values c s.now }
 {
-    if count(s, b' ') != 3 {
-        return false;
-    }
-    if 65535 < decimal(part(s, b' ', c.low)) {
-        return false;
-    }
-    if 65535 < decimal(part(s, b' ', c.high)) {
-        return false;
-    }
-    all_words(part(s, b' ', c.words))
+    count(s, b' ') == 3
+        && is_number(part(s, b' ', c.low))
+        && is_number(part(s, b' ', c.high))
+        && all_words(part(s, b' ', c.words))
 }
 
 // The slot that a line shows.

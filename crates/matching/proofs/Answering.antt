@@ -3,18 +3,18 @@ use Prim.Native.Nat.{ℕ, ◌+◌, ◌-◌, ◌≤◌, ◌<◌}
 use native.Mathlib.Omega.{arith}
 use native.Mathlib.Decide.{dec_lt}
 use mathlib.Core.List.{List}
-use mathlib.Core.Bool.{Bool, true, false, true≢false}
-use mathlib.Core.Option.{Option, none, some}
+use mathlib.Core.Bool.{true≢false}
+use mathlib.Core.Option.{Option as Found, none, some}
+use Rattle.std.specs.Prelude.{Option, Some, None}
 use mathlib.Core.Path.{◌≡◌, refl, sym, ap, ◌∙◌}
 use lib.ListN.{length, take, replicate, length-append, length-replicate, get_or-append}
 use lib.Seq.{get_or-take, length-take-le, ext_get_or, get_or-append-add}
 use Rattle.pattern.specs.declared.Pattern.{Pattern}
 use Rattle.basics.specs.Laws.Arrays.{zeros_at, at_past}
-use Rattle.matching.specs.declared.search.Answer.{Answer}
 use Rattle.matching.specs.Occurrence.{View, plain, at}
 use Rattle.matching.specs.Searches.{earliest, latest}
 use Rattle.matching.specs.Answers.{sixteen, searched}
-use Rattle.matching.specs.Steps.Settling.{Ready, Reported, Answered, AnsweredBack, Copied, Spare, shown_answer}
+use Rattle.matching.specs.Steps.Settling.{Ready, Reported, Answered, AnsweredBack, Copied, Spare, answer_of}
 use Rattle.matching.specs.Steps.Turning.{flip, Flipped}
 use Rattle.matching.proofs.Laws.Extremes.{earliest_some, earliest_none, latest_some, latest_none, earliest_same, latest_same}
 use Rattle.matching.proofs.Laws.Mirror.{length-flip, Opposite, flip-opposite, Facing, nearest_back, none_back}
@@ -38,30 +38,28 @@ same_row {m} {n} {row} {near} e few N =
     let q : i + j + 1 ≡ m = omega arith in
     omega (arith, get_or-take m near j 0 (omega arith), N.turn i j q, (flip-opposite n r).turn i j (omega arith), get_or-take m row i 0 (omega arith)))
 
-module _ {f g : Pattern} {v u : View} (F : Facing f v g u) (ok : Ready f v.places) {marks far : List ℕ} (M : Flipped f.count v.places marks far) {a : Answer} (A : Answered g u far a) where
+module _ {f g : Pattern} {v u : View} (F : Facing f v g u) (ok : Ready f v.places) {marks far : List ℕ} (M : Flipped f.count v.places marks far) where
   opposite : Opposite f.count v.places marks far
   opposite = record { turn = M.turn }
 
-  pub back_found : a.found ≡ true → {near : List ℕ} → Flipped f.count v.places a.places near → AnsweredBack f v marks (record { found = true; places = near })
-  back_found e {near} N =
-      let q : take f.count near ≡ flip v.places (take g.count a.places) =
-      same_row (A.size e) ok.few N ∙ ap (λ (k : ℕ). flip v.places (take k a.places)) (sym F.count) in
+  pub back_found : {row near : List ℕ} → Answered g u far (answer_of (Some row)) → Flipped f.count v.places row near → AnsweredBack f v marks (answer_of (Some near))
+  back_found {row} {near} A N =
+      let q : take f.count near ≡ flip v.places (take g.count row) =
+      same_row (A.size refl) ok.few N ∙ ap (λ (k : ℕ). flip v.places (take k row)) (sym F.count) in
       record {
-        some = λ _. rw q (nearest_back F ok.some opposite (A.some e));
+        some = λ _. rw q (nearest_back F ok.some opposite (A.some refl));
         size = λ _. N.size;
         rest = λ _. N.rest;
         none = λ h. absurd (true≢false h);
       }
 
-  pub back_none : a.found ≡ false → AnsweredBack f v marks a
-  back_none e =
-      let no_such : a.found ≡ true → ⊥ = λ h. true≢false (sym h ∙ e) in
-      record {
-        some = λ h. absurd (no_such h);
-        size = λ h. absurd (no_such h);
-        rest = λ h. absurd (no_such h);
-        none = λ _. none_back F ok.some opposite (A.none e);
-      }
+  pub back_none : Answered g u far (answer_of None) → AnsweredBack f v marks (answer_of None)
+  back_none A = record {
+    some = λ h. absurd (true≢false (sym h));
+    size = λ h. absurd (true≢false (sym h));
+    rest = λ h. absurd (true≢false (sym h));
+    none = λ _. none_back F ok.some opposite (A.none refl);
+  }
 
 -- ---- the answer as an equation
 
@@ -78,32 +76,23 @@ padding m p e l rest =
           rest j (omega arith) ∙ sym (zeros_at (16 - length r) i) ∙ sym (get_or-append-add r z i 0) ∙ ap (λ (x : ℕ). at (sixteen r) x) (sym q)
     ])
 
-module _ {m : ℕ} {Nearest : List ℕ → Type 0} {None : Type 0} {a : Answer} (A : Reported m Nearest None a) (few : m ≤ 16) {o : Option (List ℕ)}
-    (found : (r : List ℕ) → Nearest r → o ≡ some r) (absent : None → o ≡ none) where
-  shown-found : a.found ≡ true → shown_answer a ≡ searched o
-  shown-found e = rw (e, found (take m a.places) (A.some e), ← (padding m a.places (A.size e) few (A.rest e)))
-
-  shown-absent : a.found ≡ false → shown_answer a ≡ searched o
-  shown-absent e = rw (e, absent (A.none e))
-
-  shown_is : shown_answer a ≡ searched o
-  shown_is = go a.found refl
-    where
-      go : (b : Bool) → a.found ≡ b → shown_answer a ≡ searched o
-      go true e = shown-found e
-      go false e = shown-absent e
+module _ {m : ℕ} {Nearest : List ℕ → Type 0} {Nothing : Type 0} (few : m ≤ 16) {o : Found (List ℕ)}
+    (found : (r : List ℕ) → Nearest r → o ≡ some r) (absent : Nothing → o ≡ none) where
+  searched_is : (x : Option (List ℕ)) → Reported m Nearest Nothing (answer_of x) → x ≡ searched o
+  searched_is (Some p) A = rw (found (take m p) (A.some refl)) (ap (λ (q : List ℕ). Some q) (padding m p (A.size refl) few (A.rest refl)))
+  searched_is None A = rw (absent (A.none refl))
 
 -- ---- the two searches
 
-module _ {f : Pattern} {t marks : List ℕ} (ok : RowAccepted f t marks) {row : List ℕ} (C : Copied marks row) {a : Answer} where
-  pub first_shown : Answered f (plain f t) row a → shown_answer a ≡ searched (earliest f t marks)
-  first_shown A =
+module _ {f : Pattern} {t marks : List ℕ} (ok : RowAccepted f t marks) {row : List ℕ} (C : Copied marks row) (x : Option (List ℕ)) where
+  pub first_is : Answered f (plain f t) row (answer_of x) → x ≡ searched (earliest f t marks)
+  first_is A =
       let r = ok.ready in
-      shown_is A r.few (λ q n. (earliest_some f (plain f t) r.some row q).1 n) (λ n. (earliest_none f (plain f t) r.some row).1 n)
+      searched_is r.few (λ q n. (earliest_some f (plain f t) r.some row q).1 n) (λ n. (earliest_none f (plain f t) r.some row).1 n) x A
       ∙ ap searched (earliest_same f (plain f t) r.some row marks (λ j h. C.same j))
 
-  pub last_shown : AnsweredBack f (plain f t) row a → shown_answer a ≡ searched (latest f t marks)
-  last_shown A =
+  pub last_is : AnsweredBack f (plain f t) row (answer_of x) → x ≡ searched (latest f t marks)
+  last_is A =
       let r = ok.ready in
-      shown_is A r.few (λ q n. (latest_some f (plain f t) r.some row q).1 n) (λ n. (latest_none f (plain f t) r.some row).1 n)
+      searched_is r.few (λ q n. (latest_some f (plain f t) r.some row q).1 n) (λ n. (latest_none f (plain f t) r.some row).1 n) x A
       ∙ ap searched (latest_same f (plain f t) r.some row marks (λ j h. C.same j))

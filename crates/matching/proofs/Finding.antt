@@ -8,11 +8,10 @@ use lib.ListN.{length, take, replicate, length-append}
 use lib.Seq.{get_or-take}
 use Rattle.pattern.specs.declared.Pattern.{Pattern}
 use Rattle.basics.specs.Laws.Arrays.{zeros_at}
-use Rattle.matching.specs.declared.search.Answer.{Answer}
 use Rattle.matching.specs.Occurrence.{View, SentenceIn, OccursIn, at}
 use Rattle.matching.specs.Rows.{level, Before, NotAfter}
 use Rattle.matching.specs.Lists.{leftmost_in}
-use Rattle.matching.specs.Steps.Settling.{Ready, Answered, Spare}
+use Rattle.matching.specs.Steps.Settling.{Ready, Answered, Spare, Answer}
 use Rattle.matching.proofs.Laws.Direction.{forwards}
 use Rattle.matching.proofs.Laws.Greedy.{Run, start, run-append, run_done, run_split}
 use Rattle.matching.specs.Searches.{EarliestIn}

@@ -1,5 +1,7 @@
 -- A row that is raised to the ends of sentences until it keeps to one. Assumes nothing.
-use Prim.Native.Nat.{ℕ, ◌+◌, ◌-◌, ◌≤◌, ◌<◌}
+use Rattle.std.specs.Prelude.{Option, Some, None}
+use Prim.Native.Nat.{ℕ, ◌+◌, ◌-◌, ◌≤◌, ◌<◌, max}
+use Rattle.std.proofs.Math.Nat.{le-max_right, max-le}
 use native.Mathlib.Decide.{dec_lt}
 use native.Mathlib.Omega.{arith}
 use mathlib.Core.Bool.{Bool, true, false, true≢false}
@@ -8,11 +10,10 @@ use mathlib.Core.Path.{◌≡◌, refl, sym, ◌∙◌}
 use lib.ListN.{length, set}
 use lib.Seq.{get_or-take, get_or-set_same}
 use Rattle.pattern.specs.declared.Pattern.{Pattern}
-use Rattle.matching.specs.declared.search.Answer.{Answer}
 use Rattle.matching.specs.Occurrence.{View, Unbroken, SentenceIn, OccursIn, at}
 use Rattle.matching.specs.Rows.{NotAfter}
-use Rattle.matching.specs.Steps.Bounds.{Larger, LastEnd}
-use Rattle.matching.specs.Steps.Settling.{Ready, loose, Raised, Settled}
+use Rattle.matching.specs.Steps.Bounds.{LastEnd}
+use Rattle.matching.specs.Steps.Settling.{Ready, loose, Raised, Settled, Answer}
 use Rattle.matching.proofs.Raising.{rising_same, raised_at}
 use Rattle.matching.proofs.Settling.{unsettled}
 
@@ -60,20 +61,16 @@ last_inside {f} {q = q} S ok =
     let h : f.count - 1 < f.count = omega (arith, ok.some) in
     omega (arith, get_or-take f.count q (f.count - 1) 0 h, ((S.occurs refl).word (f.count - 1) h).inside.1)
 
--- a look for a sentence end: q is the earliest as if no sentence ended, `to` its last place, and `end` the last sentence end inside it, or 0
-pub record Looked (f : Pattern) (v : View) (p₀ p : List ℕ) (from : ℕ) (q : List ℕ) (to end : ℕ) : Type 0 where
+-- a look for a sentence end: q is the earliest as if no sentence ended, `to` its last place, and `end` the last sentence end inside it, or none
+pub record Looked (f : Pattern) (v : View) (p₀ p : List ℕ) (from : ℕ) (q : List ℕ) (to : ℕ) (end : Option ℕ) : Type 0 where
   pub keeping : Keeping f v p₀ p from
   pub settled : Settled f (loose v) p (record { found = true; places = q })
   pub ready : Ready f v.places
-  pub first : ℕ
-  pub first_is : first ≡ at q 0
   pub last_is : to ≡ at q (f.count - 1)
   -- where the look goes back to
-  pub back : ℕ
-  pub back_is : Larger from (first + 1) back
-  pub end_is : LastEnd v.ends back to end
+  pub end_is : LastEnd v.ends (max from (at q 0 + 1)) to end
 
-module _ {f : Pattern} {v : View} {p₀ p : List ℕ} {from : ℕ} {q : List ℕ} {to end : ℕ} (L : Looked f v p₀ p from q to end) where
+module _ {f : Pattern} {v : View} {p₀ p : List ℕ} {from : ℕ} {q : List ℕ} {to : ℕ} {end : Option ℕ} (L : Looked f v p₀ p from q to end) where
   abbrev S : Settled f (loose v) p (record { found = true; places = q })
   S = L.settled
 
@@ -88,13 +85,13 @@ module _ {f : Pattern} {v : View} {p₀ p : List ℕ} {from : ℕ} {q : List ℕ
   first_up = S.above refl 0 ok.some
 
   -- no sentence ends inside the row
-  pub kept : end ≡ 0 → Settled f v p₀ (record { found = true; places = q })
+  pub kept : end ≡ None → Settled f v p₀ (record { found = true; places = q })
   kept e =
       let h : f.count - 1 < f.count = omega (arith, ok.some) in
-      let back = L.back in
+      let back = max from (at q 0 + 1) in
       let inside : SentenceIn f v q = λ x a b. elim (dec_lt x back) [
-        | yes l ↦ L.keeping.clear x (omega (arith, first_up)) (let g : from ≤ x → ⊥ = λ g. omega (arith, L.back_is.only x g (omega (arith, L.first_is))) in omega arith)
-        | no l ↦ L.end_is.after x (omega arith) (omega arith) (omega (arith, L.last_is))
+        | yes l ↦ L.keeping.clear x (omega (arith, first_up)) (let g : from ≤ x → ⊥ = λ g. omega (arith, max-le {a = from} {b = at q 0 + 1} {k = x} g (omega arith)) in omega arith)
+        | no l ↦ L.end_is.none e x (omega arith) (omega (arith, L.last_is))
       ] in
       record {
         occurs = λ _. tightened (S.occurs refl) (rw (get_or-take f.count q 0 0 ok.some, get_or-take f.count q (f.count - 1) 0 h) inside);
@@ -106,30 +103,30 @@ module _ {f : Pattern} {v : View} {p₀ p : List ℕ} {from : ℕ} {q : List ℕ
       }
 
   -- one does, and no occurrence starts before it
-  module _ (some : 0 < end) where
-    end_past : at q 0 < end
-    end_past = omega (arith, L.end_is.some some, L.back_is.right, L.first_is)
+  module _ (e : ℕ) (is : end ≡ Some e) where
+    end_past : at q 0 < e
+    end_past = omega (arith, L.end_is.some e is, le-max_right from (at q 0 + 1))
 
-    end_inside : end < v.places
-    end_inside = omega (arith, L.end_is.some some, L.last_is, last_inside S ok)
+    end_inside : e < v.places
+    end_inside = omega (arith, L.end_is.some e is, L.last_is, last_inside S ok)
 
-    end_before : (r : List ℕ) → OccursIn f v r → NotAfter f.count p₀ r → end ≤ at r 0
+    end_before : (r : List ℕ) → OccursIn f v r → NotAfter f.count p₀ r → e ≤ at r 0
     unfolding NotAfter
-    end_before r O B = elim (dec_lt (at r 0) end) [
-      | yes l ↦ absurd (true≢false (sym (L.end_is.some some).2 ∙ O.sentence end l (omega (arith, L.end_is.some some, L.last_is, raised.sound r O B (f.count - 1) (omega (arith, ok.some))))))
+    end_before r O B = elim (dec_lt (at r 0) e) [
+      | yes l ↦ absurd (true≢false (sym (L.end_is.some e is).2 ∙ O.sentence e l (omega (arith, L.end_is.some e is, L.last_is, raised.sound r O B (f.count - 1) (omega (arith, ok.some))))))
       | no l ↦ omega arith
     ]
 
-    pub keeping_more : Keeping f v p₀ (set q 0 end) to
+    pub keeping_more : Keeping f v p₀ (set q 0 e) to
     keeping_more =
         let z : 0 < length q = omega (arith, S.size refl) in
         record {
           rising = raised_at raised ok.some ok.few (omega (arith, end_past)) end_before;
-          clear = λ x a b. L.end_is.after x (omega (arith, get_or-set_same q 0 end 0 z)) (omega (arith, L.end_is.some some, get_or-set_same q 0 end 0 z)) b;
+          clear = λ x a b. L.end_is.after e is x (omega (arith, get_or-set_same q 0 e 0 z)) b;
         }
 
     -- the first place is raised
-    pub keeping_less : (20001 - at (set q 0 end) 0 < 20001 - at p 0) × (end ≤ 20000)
+    pub keeping_less : (20001 - at (set q 0 e) 0 < 20001 - at p 0) × (e ≤ 20000)
     keeping_less =
         let z : 0 < length q = omega (arith, S.size refl) in
-        (omega (arith, get_or-set_same q 0 end 0 z, first_up, end_past, end_inside, ok.short), omega (arith, end_inside, ok.short))
+        (omega (arith, get_or-set_same q 0 e 0 z, first_up, end_past, end_inside, ok.short), omega (arith, end_inside, ok.short))

@@ -1,7 +1,5 @@
 -- What follows from the definitions (`Laws`), and what the proofs of several functions share.
 pub mod Laws
-mod Reading
-mod Laying
 mod Raising
 mod Settling
 mod Keeping

@@ -1,4 +1,5 @@
 -- The list calls as equations: the rows that were found are the front list or, turned round, the back list. Assumes nothing.
+use Rattle.std.specs.Prelude.{Ok, Err}
 use Prim.Native.Nat.{ℕ, ◌*◌, ◌≤◌, ◌<◌}
 use native.Mathlib.Omega.{arith}
 use native.Mathlib.Nat.{mul-le-mul_right}
@@ -10,19 +11,18 @@ use lib.Seq.{take_at, drop_at}
 use borrow.Author.Tests.{lt-ltb, le-ltb}
 use Rattle.pattern.specs.declared.Pattern.{Pattern}
 use Rattle.pattern.specs.declared.refusal.Refusal.TheVariants.{ListLength}
-use Rattle.pattern.specs.declared.refusal.Verdict.{Verdict}
-use Rattle.pattern.specs.declared.refusal.Verdict.TheVariants.{Accepted}
 use Rattle.pattern.specs.Laws.Accepting.{input-accepted}
-use Rattle.matching.specs.declared.rows.Listed.{Listed}
-use Rattle.matching.specs.declared.rows.Listed.TheVariants.{Rows, Refused}
 use Rattle.basics.specs.Collections.{Every}
 use Rattle.matching.specs.Occurrence.{View, plain}
-use Rattle.matching.specs.Lists.{leftmost, leftmost_in}
+use Rattle.matching.specs.Lists.{leftmost, leftmost_in, rightmost}
 use Rattle.basics.specs.Written.{flat, written}
-use Rattle.matching.specs.Answers.{listed, filled, Best}
+use Rattle.matching.specs.Answers.{listed, filled}
+use Rattle.matching.specs.Largest.{Largest}
 use Rattle.matching.specs.Steps.Settling.{Ready}
 use Rattle.matching.specs.Steps.Turning.{viewed, flip}
-use Rattle.matching.specs.Steps.Listing.{Faces, Room, shown_rows, stored}
+use Rattle.matching.specs.Steps.Listing.{Faces, shown_rows, stored}
+use Rattle.matching.specs.Steps.Sides.{sight}
+use Rattle.matching.specs.declared.side.Side.{Side}
 use Rattle.basics.specs.Laws.Collections.{every_map}
 use Rattle.basics.specs.Laws.Written.{length-flat}
 use Rattle.matching.proofs.Laws.Direction.{forwards}
@@ -33,6 +33,7 @@ use Rattle.matching.proofs.Laws.Lengths.{leftmost-length}
 use Rattle.matching.proofs.Laws.Mirror.{front_back_list}
 use Rattle.matching.proofs.Laws.Turning.{turned_facing, turned-ready}
 use Rattle.matching.proofs.Reversing.{flat_reversed}
+use Rattle.pattern.specs.Tests.{Verdict, input_verdict}
 
 -- ---- the rows turned round
 
@@ -58,13 +59,14 @@ shown_back : (b : Bool) → b ≡ true → (n : ℕ) (R : List (List ℕ)) → s
 shown_back b e n R = rw e
 
 -- the rows that were found, so many, stand in the list l₁, and turned round in l₂
-pub stored_back : {g : Pattern} {b : Bool} {t l : List ℕ} → Room g b t l → {rows : ℕ} → rows ≡ length (leftmost_in g (viewed b g t))
-    → {l₁ : List ℕ} → l₁ ≡ written g.count (leftmost_in g (viewed b g t)) l → b ≡ true
-    → {l₂ : List ℕ} → l₂ ≡ flip (length t) (take (rows * g.count) l₁) ++ drop (rows * g.count) l₁
-    → l₂ ≡ written g.count (shown_rows b (length t) (leftmost_in g (viewed b g t))) l
-stored_back {g} {b} {t} {l} R {rows} N W e T =
-    let F = leftmost_in g (viewed b g t) in
-    turned-written g (viewed b g t) R.ready.some (length t) rows l N W T ∙ ap (λ (x : List (List ℕ)). written g.count x l) (sym (shown_back b e (length t) F))
+pub stored_back : (s : Side) (l : List ℕ) {rows : ℕ} → rows ≡ length (leftmost_in s.pattern.now (sight s))
+    → {l₁ : List ℕ} → l₁ ≡ written s.pattern.now.count (leftmost_in s.pattern.now (sight s)) l → s.mirrored ≡ true
+    → {l₂ : List ℕ} → l₂ ≡ flip (length s.text.now) (take (rows * s.pattern.now.count) l₁) ++ drop (rows * s.pattern.now.count) l₁
+    → l₂ ≡ written s.pattern.now.count (shown_rows s.mirrored (length s.text.now) (leftmost_in s.pattern.now (sight s))) l
+stored_back s l {rows} N W e T =
+    let g = s.pattern.now in
+    let F = leftmost_in g (sight s) in
+    turned-written g (sight s) s.ready.some (length s.text.now) rows l N W T ∙ ap (λ (x : List (List ℕ)). written g.count x l) (sym (shown_back s.mirrored e (length s.text.now) F))
 
 -- ---- the pattern as it is searched
 
@@ -72,17 +74,18 @@ pub faces_ready : {f g : Pattern} {n : ℕ} → Ready f n → (b : Bool) → Fac
 faces_ready ok true F = turned-ready (F.back refl) ok
 faces_ready ok false F = rw (F.on refl) ok
 
-module _ {b : Bool} {f g : Pattern} {t : List ℕ} (ok : Ready f (length t)) (F : Faces b f g) (l : List ℕ) where
+module _ {b : Bool} {f g : Pattern} (t : List ℕ) (F : Faces b f g) (l : List ℕ) where
   -- a list with an entry for each word and slot has room for every row
-  pub room_always : length t * f.count ≤ length l → Room g b t l
+  pub room_always : length t * f.count ≤ length l → length (leftmost_in g (viewed b g t)) * g.count ≤ length l
   room_always h =
       let rows = length (leftmost_in g (viewed b g t)) in
       let k = mul-le-mul_right {m = rows} {n = length t} f.count (omega (arith, leftmost-length g (viewed b g t))) in
-      record { ready = faces_ready ok b F; rows = omega (arith, ap (λ (x : ℕ). rows * x) F.count) }
+      omega (arith, ap (λ (x : ℕ). rows * x) F.count)
 
-  pub room_counted : {rows : ℕ} → rows ≡ length (leftmost_in g (viewed b g t)) → rows * f.count ≤ length l → Room g b t l
+  pub room_counted : {rows : ℕ} → rows ≡ length (leftmost_in g (viewed b g t)) → rows * f.count ≤ length l
+      → length (leftmost_in g (viewed b g t)) * g.count ≤ length l
   room_counted {rows} e h =
-      record { ready = faces_ready ok b F; rows = omega (arith, ap (λ (x : ℕ). x * f.count) e, ap (λ (x : ℕ). length (leftmost_in g (viewed b g t)) * x) F.count) }
+      omega (arith, ap (λ (x : ℕ). x * f.count) e, ap (λ (x : ℕ). length (leftmost_in g (viewed b g t)) * x) F.count)
 
 -- ---- what was found is the front list or the back list
 
@@ -112,34 +115,34 @@ module _ (b : Bool) {f g : Pattern} (t l : List ℕ) (ok : Ready f (length t)) (
   product : {rows : ℕ} → rows ≡ found → rows * f.count ≡ N * f.count
   product e = ap (λ (x : ℕ). x * f.count) (e ∙ found_is)
 
-  listed_short : {rows : ℕ} → rows ≡ found → length l < rows * f.count → Refused (ListLength rows) ≡ listed Accepted f.count (stored b f t) (length l)
+  listed_short : {rows : ℕ} → rows ≡ found → length l < rows * f.count → Err (ListLength rows) ≡ listed (Ok tt) f.count (stored b f t) (length l)
   listed_short {rows} e k = rw (lt-ltb (length l) (N * f.count) (omega (arith, product e)), e ∙ found_is)
 
-  filled_short : {rows : ℕ} → rows ≡ found → length l < rows * f.count → l ≡ filled Accepted f.count (stored b f t) l
+  filled_short : {rows : ℕ} → rows ≡ found → length l < rows * f.count → l ≡ filled (Ok tt) f.count (stored b f t) l
   filled_short e k = rw (lt-ltb (length l) (N * f.count) (omega (arith, product e)))
 
   module _ (room : found * g.count ≤ length l) where
     fits : N * f.count ≤ length l
     fits = omega (arith, product {rows = found} refl, ap (λ (x : ℕ). found * x) F.count)
 
-    listed_done : Rows found ≡ listed Accepted f.count (stored b f t) (length l)
+    listed_done : Ok found ≡ listed (Ok tt) f.count (stored b f t) (length l)
     listed_done = rw (le-ltb (length l) (N * f.count) fits, found_is)
 
-    filled_done : {l' : List ℕ} → l' ≡ written g.count (shown_rows b (length t) (leftmost_in g (viewed b g t))) l → l' ≡ filled Accepted f.count (stored b f t) l
+    filled_done : {l' : List ℕ} → l' ≡ written g.count (shown_rows b (length t) (leftmost_in g (viewed b g t))) l → l' ≡ filled (Ok tt) f.count (stored b f t) l
     filled_done q =
         rw (le-ltb (length l) (N * f.count) fits)
         (q ∙ ap (λ (x : ℕ). written x (shown_rows b (length t) (leftmost_in g (viewed b g t))) l) F.count ∙ ap (λ (R : List (List ℕ)). written f.count R l) (faces_list t ok b F))
 
-  module _ {v : Verdict} (accepted : v ≡ Accepted) where
+  module _ {v : Verdict} (accepted : v ≡ Ok tt) where
     pub none_stored : {rows : ℕ} → rows ≡ found → length l < rows * f.count
-        → (Refused (ListLength rows) ≡ listed v f.count (stored b f t) (length l)) × (l ≡ filled v f.count (stored b f t) l)
+        → (Err (ListLength rows) ≡ listed v f.count (stored b f t) (length l)) × (l ≡ filled v f.count (stored b f t) l)
     none_stored e k = rw accepted (listed_short e k, filled_short e k)
 
-    pub all_stored : Room g b t l → {r : Listed} {l' : List ℕ} → r ≡ Rows found → l' ≡ written g.count (shown_rows b (length t) (leftmost_in g (viewed b g t))) l
-        → (r ≡ listed v f.count (stored b f t) (length l)) × (l' ≡ filled v f.count (stored b f t) l)
-    all_stored R e q = rw accepted (e ∙ listed_done R.rows, filled_done R.rows q)
+    pub all_stored : length (leftmost_in g (viewed b g t)) * g.count ≤ length l → {rows : ℕ} {l' : List ℕ} → rows ≡ found → l' ≡ written g.count (shown_rows b (length t) (leftmost_in g (viewed b g t))) l
+        → (Ok rows ≡ listed v f.count (stored b f t) (length l)) × (l' ≡ filled v f.count (stored b f t) l)
+    all_stored R e q = rw accepted (rw e (listed_done R), filled_done R q)
 
 -- ---- demand 3
 
-pub best : (f : Pattern) (t : List ℕ) → Best f t
+pub best : (f : Pattern) (t : List ℕ) → input_verdict f (length t) ≡ Ok tt → Largest f t (leftmost f t) (rightmost f t)
 best f t e = largest ((input-accepted f (length t)).0 e)

@@ -1,51 +1,46 @@
 -- A row of places that is raised until it is an occurrence. Assumes nothing.
-use Prim.Native.Nat.{ℕ, zero, suc, ◌+◌, ◌-◌, ◌≤◌, ◌<◌}
+use Prim.Native.Nat.{ℕ, zero, suc, ◌+◌, ◌-◌, ◌≤◌, ◌<◌, max}
 use mathlib.Core.List.{List, [], ◌∷◌}
 use mathlib.Core.Path.{◌≡◌, refl, ◌∙◌}
 use native.Mathlib.Decide.{ℕ_discrete}
 use native.Mathlib.Nat.{le_of_suc-le-suc, not-suc-le-zero}
 use native.Mathlib.Omega.{arith}
+use Rattle.std.proofs.Math.Nat.{le-max_left, le-max_right, max-le}
 use lib.ListN.{length, set, length-set}
 use lib.Seq.{get_or-set_same, get_or-set_other}
 use Rattle.pattern.specs.declared.Pattern.{Pattern}
-use Rattle.pattern.specs.Patterns.{slot_at}
 use Rattle.matching.specs.Occurrence.{View, OccursIn, at}
 use Rattle.matching.specs.Rows.{NotAfter}
-use Rattle.matching.specs.Steps.Bounds.{First, Least, Between, Prior, Next}
+use Rattle.matching.specs.Steps.Bounds.{First, Least, Behind, Ahead}
 use Rattle.matching.specs.Steps.Settling.{Ready, Bound, Visited, Placed, Never, slack, Raised, Stable}
 
--- what the ring's neighbours allow is what the other slots allow
-pub bounded : {f : Pattern} {p : List ℕ} {j i k : ℕ} → Prior f.count j i → Next f.count j k → (z : ℕ)
-    → Between j f.count (at p j) (at p i) (at p k) (slot_at f j).low (slot_at f k).high f.least f.most z → Bound f p j z
-bounded {f} {p} {j} {i} {k} P N z B =
+-- the least place that both neighbours allow, and that is no smaller than the slot's own, is the least that the other slots allow
+pub needed : {f : Pattern} {p : List ℕ} {j low high : ℕ} → Least (Behind f p j) low → Least (Ahead f p j) high → Least (Bound f p j) (max (max (at p j) low) high)
+needed {f} {p} {j} {low} {high} L H =
+    let r = max (max (at p j) low) high in
+    let far : max (at p j) low ≤ r = le-max_left (max (at p j) low) high in
+    let own : at p j ≤ r = omega (arith, far, le-max_left (at p j) low) in
+    let past : low ≤ r = omega (arith, far, le-max_right (at p j) low) in
+    let most : high ≤ r = le-max_right (max (at p j) low) high in
     record {
-      own = B.self;
-      after = λ h. rw (P.back h) at (B.behind.after h);
-      before = λ h. rw (N.on h) at (B.ahead.before h);
-      ends = λ h. rw (N.round h) at (B.ahead.ends h);
-      starts = λ h. rw (P.round h) at (B.behind.starts h);
-    }
-
-pub unbounded : {f : Pattern} {p : List ℕ} {j i k : ℕ} → Prior f.count j i → Next f.count j k → (z : ℕ)
-    → Bound f p j z → Between j f.count (at p j) (at p i) (at p k) (slot_at f j).low (slot_at f k).high f.least f.most z
-unbounded P N z B =
-    record {
-      self = B.own;
-      behind = record { after = λ h. rw (P.back h) (B.after h); starts = λ h. rw (P.round h) (B.starts h) };
-      ahead = record { before = λ h. rw (N.on h) (B.before h); ends = λ h. rw (N.round h) (B.ends h) };
+      holds = record {
+        own = own;
+        after = λ h. omega (arith, L.holds.after h, past);
+        before = λ h. omega (arith, H.holds.before h, most);
+        ends = λ h. omega (arith, H.holds.ends h, most);
+        starts = λ h. omega (arith, L.holds.starts h, past);
+      };
+      least = λ x B. max-le (max-le B.own (L.least x (record { after = B.after; starts = B.starts }))) (H.least x (record { before = B.before; ends = B.ends }));
     }
 
 -- the least place that the slots allow, and then the first that the slot fits
-pub visited : {f : Pattern} {v : View} {p : List ℕ} {j i k own x y low high least most n r : ℕ} → Prior f.count j i → Next f.count j k
-    → own ≡ at p j → x ≡ at p i → y ≡ at p k → low ≡ (slot_at f j).low → high ≡ (slot_at f k).high → least ≡ f.least → most ≡ f.most
-    → Least (Between j f.count own x y low high least most) n → First (v.fits j) v.places n r → Visited f v p j r
-visited {f} {v} {p} {j} {i} {k} {n = n} {r = r} P Q e1 e2 e3 e4 e5 e6 e7 N₀ F =
-    let N : Least (Between j f.count (at p j) (at p i) (at p k) (slot_at f j).low (slot_at f k).high f.least f.most) n = rw (e1, e2, e3, e4, e5, e6, e7) at N₀ in
-    let b = bounded {f = f} {p = p} P Q n N.holds in
+pub visited : {f : Pattern} {v : View} {p : List ℕ} {j n r : ℕ} → Least (Bound f p j) n → First (v.fits j) v.places n r → Visited f v p j r
+visited {r = r} N F =
+    let b = N.holds in
     record {
       bound = record { own = omega (arith, F.low); after = λ h. omega (arith, b.after h, F.low); before = λ h. omega (arith, b.before h, F.low); ends = λ h. omega (arith, b.ends h, F.low); starts = λ h. omega (arith, b.starts h, F.low) };
       hit = F.hit;
-      least = λ x B g. let h : x < r → ⊥ = λ l. F.none x l (N.least x (unbounded {f = f} {p = p} P Q x B)) g in omega arith;
+      least = λ x B g. let h : x < r → ⊥ = λ l. F.none x l (N.least x B) g in omega arith;
     }
 
 -- what an occurrence after the row allows

@@ -9,12 +9,11 @@ use native.Mathlib.Omega.{arith}
 use lib.ListN.{length, take, set}
 use lib.Seq.{get_or-take, length-take-le}
 use Rattle.pattern.specs.declared.Pattern.{Pattern}
-use Rattle.matching.specs.declared.search.Answer.{Answer}
 use Rattle.matching.specs.Occurrence.{View, OccursIn, at}
 use Rattle.matching.specs.Rows.{Before, NotAfter}
 use Rattle.matching.specs.Steps.Bounds.{Next}
 use Rattle.matching.proofs.Raising.{rising_same, stable, raised, placed}
-use Rattle.matching.specs.Steps.Settling.{Ready, Visited, Placed, Never, Raised, Stable, Settled, Started, Answered, Spare}
+use Rattle.matching.specs.Steps.Settling.{Ready, Visited, Placed, Never, Raised, Stable, Settled, Started, Answered, Spare, Answer}
 
 -- the invariant of the rounds: the slots of the last `calm` visits are stable
 pub record Calm (f : Pattern) (v : View) (p₀ p : List ℕ) (calm j : ℕ) : Type 0 where
@@ -123,10 +122,10 @@ pub record Starting (m : ℕ) (p₀ p : List ℕ) (j : ℕ) : Type 0 where
   pub past : (k : ℕ) → k < j → at p k ≡ at p₀ k + 1
   pub rest : (k : ℕ) → j ≤ k → at p k ≡ at p₀ k
 
-module _ {m : ℕ} {p₀ p : List ℕ} {j : ℕ} (S : Starting m p₀ p j) where
+module _ {m : ℕ} {p₀ p : List ℕ} {j : ℕ} (S : Starting m (take m p₀) p j) where
   -- a mark at the text's end leaves nothing past it
   pub started_none : {n : ℕ} {a : Answer} → j < m → n ≤ at p j → a.found ≡ false → Started m n p₀ a
   unfolding Before
   started_none {a = a} l h e =
       let no_such : a.found ≡ true → ⊥ = λ g. true≢false (sym g ∙ e) in
-      record { past = λ g. absurd (no_such g); rest = λ g. absurd (no_such g); none = λ _ q past inside. omega (arith, S.rest j (omega arith), past j l, inside j l) }
+      record { past = λ g. absurd (no_such g); rest = λ g. absurd (no_such g); none = λ _ q past inside. omega (arith, S.rest j (omega arith), get_or-take m p₀ j 0 l, past j l, inside j l) }

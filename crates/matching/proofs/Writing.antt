@@ -9,12 +9,11 @@ use borrow.Rule.Slice.PartMut.{put_mid}
 use lib.ListN.{length, take, drop, replicate, length-append, length-drop, take-append-drop}
 use lib.Seq.{paste, length-paste, length-take-le, take-append_seam, drop-append-add, drop-append_seam, drop-drop}
 use Rattle.pattern.specs.declared.Pattern.{Pattern}
-use Rattle.matching.specs.declared.search.Answer.{Answer}
 use Rattle.basics.specs.Collections.{Every}
 use Rattle.matching.specs.Occurrence.{View}
 use Rattle.matching.specs.Lists.{leftmost_in}
 use Rattle.basics.specs.Written.{flat, written, row_over}
-use Rattle.matching.specs.Steps.Settling.{Ready, Answered}
+use Rattle.matching.specs.Steps.Settling.{Ready, Answered, Answer}
 use Rattle.basics.specs.Laws.Collections.{every_map}
 use Rattle.basics.specs.Laws.Written.{length-flat}
 use Rattle.basics.specs.Laws.Lending.{row-pasted}

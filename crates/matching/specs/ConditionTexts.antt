@@ -1,8 +1,7 @@
 -- A worked text for the conditions of an occurrence, as one statement about the meanings: in one text one row meets all four, and each of
 -- four others fails one of them alone. The letters a, b and x are the words 1, 2 and 6, a full stop the word 0.
-use Rattle.std.specs.Prelude.{ℕ, ◌≡◌, List, [], ◌∷◌, Bool, true, false}
+use Rattle.std.specs.Prelude.{ℕ, ◌≡◌, List, [], ◌∷◌, Bool, true, false, Ok}
 use Rattle.pattern.specs.declared.Pattern.{Pattern}
-use Rattle.pattern.specs.declared.refusal.Verdict.TheVariants.{Accepted}
 use Rattle.matching.specs.Occurrences.{word, gap, span, sentence}
 use Rattle.matching.specs.Answers.{row_verdict}
 use Rattle.matching.specs.Texts.{one_word, pattern_of, Results}
@@ -17,7 +16,7 @@ text-conditions = 1 ∷ 2 ∷ 6 ∷ 2 ∷ 2 ∷ 1 ∷ 0 ∷ 2 ∷ []
 
 -- pattern, text and row are accepted, and what the four conditions say of the row, in their order
 pub record Conditions (f : Pattern) (t r : List ℕ) (word_holds gap_holds span_holds sentence_holds : Bool) : Type 0 where
-  pub accepted : row_verdict f t r ≡ Accepted
+  pub accepted : row_verdict f t r ≡ Ok tt
   pub word_is : word f t r ≡ word_holds
   pub gap_is : gap f r ≡ gap_holds
   pub span_is : span f r ≡ span_holds

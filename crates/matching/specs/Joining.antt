@@ -1,8 +1,7 @@
 -- Two texts with a sentence end between them, so that a long corpus can be counted piece by piece: what is stated of the joined text.
-use Rattle.std.specs.Prelude.{ℕ, ◌+◌, List, ◌∷◌, ◌++◌, map, ◌↔◌, ◌≡◌, length}
+use Rattle.std.specs.Prelude.{ℕ, ◌+◌, List, ◌∷◌, ◌++◌, map, ◌↔◌, ◌≡◌, length, Ok}
 use Rattle.pattern.specs.declared.Pattern.{Pattern}
 use Rattle.pattern.specs.Tests.{input_verdict}
-use Rattle.matching.specs.declared.rows.Listed.TheVariants.{Rows}
 use Rattle.matching.specs.Occurrence.{View, plain, OccursIn, Occurs}
 use Rattle.matching.specs.Occurrences.{occurrences}
 use Rattle.matching.specs.Lists.{leftmost}
@@ -33,6 +32,6 @@ pub record JoinedTexts (f : Pattern) (t u : List ℕ) : Type 0 where
 pub record SupportsAdd (f : Pattern) (t u : List ℕ) : Type 0 where
   pub first : ℕ
   pub second : ℕ
-  pub of_first : counted (input_verdict f (length t)) (leftmost f t) ≡ Rows first
-  pub of_second : counted (input_verdict f (length u)) (leftmost f u) ≡ Rows second
-  pub of_joined : counted (input_verdict f (length (t ++ 0 ∷ u))) (leftmost f (t ++ 0 ∷ u)) ≡ Rows (first + second)
+  pub of_first : counted (input_verdict f (length t)) (leftmost f t) ≡ Ok first
+  pub of_second : counted (input_verdict f (length u)) (leftmost f u) ≡ Ok second
+  pub of_joined : counted (input_verdict f (length (t ++ 0 ∷ u))) (leftmost f (t ++ 0 ∷ u)) ≡ Ok (first + second)

@@ -1,70 +1,46 @@
-ghost use Rattle.std.specs.Prelude.{◌≤◌, ◌<◌};
-ghost use Rattle.matching.specs.Steps.Bounds.{Larger, Behind, Ahead, Least, Between, Prior, Next};
+ghost use Rattle.std.specs.Prelude.{◌<◌};
+ghost use Rattle.matching.specs.Steps.Bounds.{Next};
 
-// The larger of two numbers.
-pub(crate) fn larger(a: usize, b: usize) -> usize
-    ensures { Larger a b result }
-{
-    if a < b { b } else { a }
-}
+use crate::side::Side;
 
-// The least place that the slot before allows, whose place is x; at the first slot, that the last allows.
-fn behind(j: usize, x: usize, low: usize, most: usize) -> usize
-    requires { (x < 65536) × (low < 65536) }
-    ensures { Least (Behind j x low most) result }
-{
-    if j == 0 {
-        if x + 1 < most {
-            return 0;
+// Each asks that j is one of the slots: a type of such numbers would be made anew at each step, and be no plainer.
+impl<'a> Side<'a> {
+    ghost use Rattle.matching.specs.Steps.Bounds.{Behind, Ahead, Least};
+    ghost use Rattle.matching.specs.Steps.Settling.{Bound};
+
+    // The least place that the slot before allows to the slot j in the row; to the first slot, that the last allows.
+    fn behind(&self, row: &[u16; 16], j: usize) -> usize
+        requires { j < self.now.pattern.now.count }
+        ensures { Least (Behind self.now.pattern.now row.now j) result }
+    {
+        let f = self.pattern;
+        if j == 0 {
+            return (row[f.count - 1] as usize + 1).saturating_sub(f.most as usize);
         }
-        return x + 1 - most;
+        row[j - 1] as usize + f.slots[j].low as usize + 1
     }
-    x + low + 1
-}
 
-// The least place that the slot after allows, whose place is y; at the last slot, that the first allows.
-fn ahead(j: usize, m: usize, y: usize, high: usize, least: usize) -> usize
-    requires { (j < m) × (y < 65536) × (high < 65536) × (least < 65536) × (1 ≤ least) }
-    ensures { Least (Ahead j m y high least) result }
-{
-    if j + 1 == m {
-        return y + least - 1;
+    // The least place that the slot after allows to the slot j in the row; to the last slot, that the first allows.
+    fn ahead(&self, row: &[u16; 16], j: usize) -> usize
+        requires { j < self.now.pattern.now.count }
+        ensures { Least (Ahead self.now.pattern.now row.now j) result }
+    {
+        let f = self.pattern;
+        if j + 1 == f.count {
+            return row[0] as usize + f.least as usize - 1;
+        }
+        (row[j + 1] as usize).saturating_sub(f.slots[j + 1].high as usize + 1)
     }
-    if y < high + 1 {
-        return 0;
-    }
-    y - (high + 1)
-}
 
-// The least place that its own and its neighbours allow to the slot j of m.
-pub(crate) fn need(
-    j: usize,
-    m: usize,
-    own: usize,
-    x: usize,
-    y: usize,
-    low: usize,
-    high: usize,
-    least: usize,
-    most: usize,
-) -> usize
-    requires { (j < m) × (x < 65536) × (y < 65536) × (low < 65536) × (high < 65536) × (least < 65536) × (1 ≤ least) }
-    ensures { Least (Between j m own x y low high least most) result }
-{
-    let a = behind(j, x, low, most);
-    let b = ahead(j, m, y, high, least);
-    larger(own, larger(a, b))
-}
-
-// The slot before, and before the first the last.
-pub(crate) fn prior(j: usize, m: usize) -> usize
-    requires { j < m }
-    ensures { Prior m j result }
-{
-    if j == 0 {
-        return m - 1;
+    // The least place that its own and its neighbours in the row allow to the slot j.
+    pub(crate) fn need(&self, row: &[u16; 16], j: usize) -> usize
+        requires { j < self.now.pattern.now.count }
+        ensures { Least (Bound self.now.pattern.now row.now j) result }
+    {
+        let low = self.behind(row, j);
+        let high = self.ahead(row, j);
+        (row[j] as usize).max(low).max(high)
     }
-    j - 1
 }
 
 // The slot after, and after the last the first.
@@ -72,9 +48,5 @@ pub(crate) fn next(j: usize, m: usize) -> usize
     requires { j < m }
     ensures { Next m j result }
 {
-    let k = j + 1;
-    if k == m {
-        return 0;
-    }
-    k
+    if j + 1 == m { 0 } else { j + 1 }
 }

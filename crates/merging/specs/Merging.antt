@@ -1,15 +1,12 @@
 -- Two patterns into one (document 02, Job 5): slot by slot, and the span limits that both allow. The tests are both patterns' own, then 17,
 -- 18 and 19, each over the whole pattern.
-use Rattle.std.specs.Prelude.{ℕ, zero, suc, ◌+◌, min, max, List, [], ◌∷◌, Bool, not, ◌&&◌, ◌||◌, ltb, leb, eqb}
+use Rattle.std.specs.Prelude.{ℕ, zero, suc, ◌+◌, min, max, List, [], ◌∷◌, Bool, not, ◌&&◌, ◌||◌, ltb, leb, eqb, Result, Ok, Err}
 use Rattle.pattern.specs.declared.slot.Slot.{Slot}
 use Rattle.pattern.specs.declared.Pattern.{Pattern}
 use Rattle.pattern.specs.declared.refusal.Refusal.{Refusal}
 use Rattle.pattern.specs.declared.refusal.Refusal.TheVariants.{SlotsDiffer, NothingShared, TooManyWords}
-use Rattle.pattern.specs.declared.refusal.Verdict.{Verdict}
-use Rattle.pattern.specs.declared.refusal.Verdict.TheVariants.{Accepted, Refused}
 use Rattle.pattern.specs.Patterns.{slot_at, first_slots, empty_pattern}
-use Rattle.pattern.specs.Tests.{refuse, and_then, slots_verdict, pattern_verdict}
-use Rattle.merging.specs.declared.Merged.{Merged}
+use Rattle.pattern.specs.Tests.{Verdict, refuse, and_then, slots_verdict, pattern_verdict}
 use Rattle.merging.specs.Slots.{merged_slot}
 
 -- the n merged slots from slot j on
@@ -34,11 +31,11 @@ remains s = (s.excluding || ltb 0 s.count) && leb s.low s.high
 
 -- 18, of a slot
 abbrev pub shared_verdict : ℕ → Slot → Verdict
-shared_verdict k s = refuse (not (remains s)) NothingShared Accepted
+shared_verdict k s = refuse (not (remains s)) NothingShared (Ok tt)
 
 -- 19, of a slot
 abbrev pub room_verdict : ℕ → Slot → Verdict
-room_verdict k s = refuse (ltb 8 s.count) TooManyWords Accepted
+room_verdict k s = refuse (ltb 8 s.count) TooManyWords (Ok tt)
 
 -- 18, then 19, of the merged pattern
 unfoldable pub result_verdict : Pattern → Verdict
@@ -57,15 +54,21 @@ merge_verdict f g =
 
 -- ---- the answer
 
--- a refusal, with a new pattern beside it
-abbrev pub refused : Refusal → Merged
-refused why = record { verdict = Refused why; pattern = empty_pattern }
-
 -- what is given where the tests come to the verdict
-abbrev pub answered : Verdict → Pattern → Merged
-answered Accepted m = record { verdict = Accepted; pattern = m }
-answered (Refused why) m = refused why
+abbrev pub answered : Verdict → Pattern → Result Pattern Refusal
+answered (Ok tt) m = Ok m
+answered (Err why) m = Err why
 
 -- what merging gives
-unfoldable pub merged : Pattern → Pattern → Merged
+unfoldable pub merged : Pattern → Pattern → Result Pattern Refusal
 merged f g = answered (merge_verdict f g) (merged_pattern f g)
+
+-- whether it is refused, and why
+abbrev pub verdict_of : Result Pattern Refusal → Verdict
+verdict_of (Ok m) = Ok tt
+verdict_of (Err why) = Err why
+
+-- the pattern that there is then: the merged one or, where it is refused, a new one
+abbrev pub pattern_of : Result Pattern Refusal → Pattern
+pattern_of (Ok m) = m
+pattern_of (Err why) = empty_pattern

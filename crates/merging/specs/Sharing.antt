@@ -1,12 +1,11 @@
 -- What the refusals 18 and 19 mean of two accepted patterns with equally many slots, without the merged pattern.
-use Rattle.std.specs.Prelude.{ℕ, ◌≤◌, ◌<◌, ◌≡◌, true, ◌++◌, length}
+use Rattle.std.specs.Prelude.{ℕ, ◌≤◌, ◌<◌, ◌≡◌, true, ◌++◌, length, Ok, Err}
 use Rattle.pattern.specs.declared.slot.Slot.{Slot}
 use Rattle.pattern.specs.declared.Pattern.{Pattern}
 use Rattle.pattern.specs.declared.refusal.Refusal.TheVariants.{NothingShared, TooManyWords}
-use Rattle.pattern.specs.declared.refusal.Verdict.{Verdict}
-use Rattle.pattern.specs.declared.refusal.Verdict.TheVariants.{Accepted, Refused}
 use Rattle.pattern.specs.Patterns.{stated, takes, slot_at}
 use Rattle.pattern.specs.Words.{sorted}
+use Rattle.pattern.specs.Tests.{Verdict}
 
 -- n lies within the bounds of both
 pub record InBoth (low high low' high' n : ℕ) : Type 0 where
@@ -43,6 +42,6 @@ RoomSlot s u = s.excluding ≡ true → u.excluding ≡ true → length (sorted 
 
 -- the verdict: 18 where something is not shared; 19 where all is shared and some slot has no room; else none
 pub data Judged (f g : Pattern) : Verdict → Type 0 where
-  unshared : Unshared f g → Judged f g (Refused NothingShared)
-  crowded : Share f g → (j : ℕ) → j < f.count → (RoomSlot (slot_at f j) (slot_at g j) → ⊥) → Judged f g (Refused TooManyWords)
-  passed : Share f g → ((j : ℕ) → j < f.count → RoomSlot (slot_at f j) (slot_at g j)) → Judged f g Accepted
+  unshared : Unshared f g → Judged f g (Err NothingShared)
+  crowded : Share f g → (j : ℕ) → j < f.count → (RoomSlot (slot_at f j) (slot_at g j) → ⊥) → Judged f g (Err TooManyWords)
+  passed : Share f g → ((j : ℕ) → j < f.count → RoomSlot (slot_at f j) (slot_at g j)) → Judged f g (Ok tt)

@@ -6,82 +6,51 @@ mod slots;
 mod words;
 
 ghost use Rattle.std.specs.Prelude.{◌≡◌, ◌≤◌};
-ghost use Rattle.merging.specs.Merging.{merged_pattern, result_verdict, refused, answered, merged};
+ghost use Rattle.merging.specs.Merging.{merged_pattern, result_verdict, answered, merged};
 ghost use Rattle.merging.specs.Steps.Inputs.{Mergeable};
 
 use checks::{room_verdict, shared_verdict};
-use pattern::{Pattern, Refusal, Verdict};
-use slots::{larger_bound, merged_slots, smaller_bound};
+use pattern::{Pattern, Refusal};
+use slots::merged_slots;
 
-// What merging gives: the merged pattern or, where it is refused, a new pattern.
-#[derive(Clone, Copy)]
-pub struct Merged {
-    pub verdict: Verdict,
-    pub pattern: Pattern,
-}
-
-// A refusal, with a new pattern beside it.
-fn refuse(why: Refusal) -> Merged
-    ensures { result ≡ refused why }
-{
-    Merged {
-        verdict: Verdict::Refused(why),
-        pattern: Pattern::new(),
-    }
-}
-
-// The merged pattern or, where 18 or 19 applies, the refusal.
+// The merged pattern or, where 18 or 19 applies, the refusal. (The count stands in the contract: Pattern is C's struct, whose count may be
+// any.)
 #[tactic(auto, unfolding(crate::specs::Merging::result_verdict))]
-fn judge(pattern: Pattern) -> Merged
+fn judge(pattern: Pattern) -> Result<Pattern, Refusal>
     requires { pattern.count ≤ 16 }
     ensures { result ≡ answered (result_verdict pattern) pattern }
 {
-    let shared = shared_verdict(pattern);
-    if let Verdict::Refused(why) = shared {
-        return refuse(why);
-    }
+    pattern.check_slots(shared_verdict)?;
     if pattern.most < pattern.least {
-        return refuse(Refusal::NothingShared);
+        return Err(Refusal::NothingShared);
     }
-    let room = room_verdict(pattern);
-    if let Verdict::Refused(why) = room {
-        return refuse(why);
-    }
-    Merged {
-        verdict: Verdict::Accepted,
-        pattern,
-    }
+    pattern.check_slots(room_verdict)?;
+    Ok(pattern)
 }
 
 // The two patterns merged slot by slot, with the span limits that both allow.
-fn merged_pattern(first: Pattern, second: Pattern) -> Pattern
-    requires { Mergeable first second }
-    ensures { result ≡ merged_pattern first second }
+fn merged_pattern(first: &Pattern, second: &Pattern) -> Pattern
+    requires { Mergeable first.now second.now }
+    ensures { result ≡ merged_pattern first.now second.now }
 {
     let slots = merged_slots(first, second);
     Pattern {
         slots,
         count: first.count,
-        least: larger_bound(first.least, second.least),
-        most: smaller_bound(first.most, second.most),
+        least: first.least.max(second.least),
+        most: first.most.min(second.most),
     }
 }
 
 // Two patterns into one: a row is an occurrence of it exactly when it is one of both.
 #[tactic(auto, using(crate::proofs::Inputs::few_slots, crate::proofs::Inputs::mergeable), unfolding(crate::specs::Merging::merged, crate::specs::Merging::merge_verdict))]
-pub fn merge(first: Pattern, second: Pattern) -> Merged
+pub fn merge(first: Pattern, second: Pattern) -> Result<Pattern, Refusal>
     ensures { result ≡ merged first second }
 {
-    let verdict = first.check();
-    if let Verdict::Refused(why) = verdict {
-        return refuse(why);
-    }
-    let other = second.check();
-    if let Verdict::Refused(why) = other {
-        return refuse(why);
-    }
+    first.check()?;
+    second.check()?;
     if first.count != second.count {
-        return refuse(Refusal::SlotsDiffer);
+        return Err(Refusal::SlotsDiffer);
     }
-    judge(merged_pattern(first, second))
+    judge(merged_pattern(&first, &second))
 }

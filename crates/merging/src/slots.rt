@@ -1,5 +1,5 @@
 // Two slots into one, and the slots of two patterns one by one.
-ghost use Rattle.std.specs.Prelude.{◌≡◌, min, max};
+ghost use Rattle.std.specs.Prelude.{◌≡◌};
 ghost use Rattle.pattern.specs.Patterns.{first_slots};
 ghost use Rattle.merging.specs.Slots.{merged_slot};
 ghost use Rattle.merging.specs.Merging.{merged_slots};
@@ -8,58 +8,31 @@ ghost use Rattle.merging.specs.Steps.Inputs.{Ordered, Mergeable};
 use crate::words::merged_words;
 use pattern::{Pattern, Slot};
 
-// The larger of two bounds.
-pub(crate) fn larger_bound(a: u16, b: u16) -> u16
-    ensures { result ≡ max a b }
-{
-    if a < b {
-        return b;
-    }
-    a
-}
-
-// The smaller of two bounds.
-pub(crate) fn smaller_bound(a: u16, b: u16) -> u16
-    ensures { result ≡ min a b }
-{
-    if a < b {
-        return a;
-    }
-    b
-}
-
-// Two slots into one: the words that both take, and the gap that both allow.
-fn merged_slot(first: Slot, second: Slot) -> Slot
-    requires { Ordered first × Ordered second }
-    ensures { result ≡ merged_slot first second }
+// Two slots into one: the words that both take, and the gap that both allow. (`Ordered` stays in the contracts: Slot is C's struct, and a
+// type around it for three functions would be no plainer.)
+fn merged_slot(first: &Slot, second: &Slot) -> Slot
+    requires { Ordered first.now × Ordered second.now }
+    ensures { result ≡ merged_slot first.now second.now }
 {
     let words = merged_words(first, second);
-    let entries = words.entries;
-    let n = words.count;
-    let low = larger_bound(first.low, second.low);
-    let high = smaller_bound(first.high, second.high);
     Slot::of(
-        low,
-        high,
-        first.excluding & second.excluding,
-        &entries[0..n],
+        first.low.max(second.low),
+        first.high.min(second.high),
+        first.excluding && second.excluding,
+        words.as_slice(),
     )
 }
 
 // The merged slots of two patterns, and unused ones after them.
-pub(crate) fn merged_slots(first: Pattern, second: Pattern) -> [Slot; 16]
-    requires { Mergeable first second }
-    ensures { result ≡ first_slots (merged_slots first second 0 first.count) }
+#[tactic(auto, using(pattern::specs::Laws::Filling::filled_first, pattern::specs::Laws::Filling::filled_none, crate::specs::Laws::Slots::slots_end))]
+pub(crate) fn merged_slots(first: &Pattern, second: &Pattern) -> [Slot; 16]
+    requires { Mergeable first.now second.now }
+    ensures { result ≡ first_slots (merged_slots first.now second.now 0 first.now.count) }
 {
-    let count = first.count;
-    let empty = Pattern::new();
-    let mut slots = empty.slots;
-    let mut j = 0;
-    while j < count {
-        let one = first.slots[j];
-        let other = second.slots[j];
-        slots[j] = merged_slot(one, other);
-        j += 1;
+    let mut slots = Pattern::new().slots;
+    // for over indices: after `iter_mut` in a zip a proof knows no element of the slots
+    for j in 0..first.count {
+        slots[j] = merged_slot(&first.slots[j], &second.slots[j]);
     }
     slots
 }

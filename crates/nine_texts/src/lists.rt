@@ -1,229 +1,143 @@
 // The front list, the back list, the list of all occurrences, and how many rows these have.
 ghost use Rattle.std.specs.Prelude.{◌<◌};
 
-use crate::cases::{Case, Rows, first, row};
-use crate::score::{Score, refused, show};
-use counting::Tallied;
-use matching::Listed;
-use pattern::Pattern;
+use crate::cases::first;
+use crate::score::{Score, number_of};
+use crate::tables::{Case, Rows};
+use pattern::{Pattern, Refusal};
 use std::io;
 
-// Which of a text's lists.
-#[derive(Clone, Copy)]
-enum List {
-    Front,
-    Back,
-    All,
-}
-
-// What a list of nines should hold in the end, and how many of its entries are written.
+// What a list of nines should hold in the end, and how many of its entries are written: without a heap its length stands beside it.
 #[derive(Clone, Copy)]
 struct Wanted {
     list: [u16; 40],
     size: usize,
 }
 
-// What a list call answers, as the number of rows or of the refusal and its place, and the list then, of which it was lent `room` entries.
+// Rows over the start of a list of nines, of which at least one is left.
+fn filled(rows: Rows) -> Wanted
+    ensures { result.size < 40 }
+{
+    let mut list = [9u16; 40];
+    let mut size = 0;
+    for row in rows {
+        for place in *row {
+            if size < 39 {
+                list[size] = *place;
+                size += 1;
+            }
+        }
+    }
+    Wanted { list, size }
+}
+
+// How many rows, or the refusal as a number.
+fn rows_number(answer: Result<usize, Refusal>) -> u64 {
+    number_of(answer.map(|rows| rows as u64))
+}
+
+// The refusal's place, and 0 where nothing is refused: a place is checked for each call, refused or not.
+fn rows_place(answer: Result<usize, Refusal>) -> u64 {
+    match answer {
+        Ok(_) => 0,
+        Err(why) => why.place() as u64,
+    }
+}
+
+// What a list call answers, and the list then, of which it was lent `room` entries: without a heap the number stands beside it.
 #[derive(Clone, Copy)]
 struct Called {
-    number: u64,
-    place: u64,
+    answer: Result<usize, Refusal>,
     list: [u16; 40],
     room: usize,
 }
 
-// The place at a slot, counted from 0.
-fn place(row: [u16; 4], j: usize) -> u16 {
-    if j < 4 {
-        return row[j];
-    }
-    0
-}
-
-// Rows of m places over the start of a list of nines, of which at least one is left.
-fn filled(rows: Rows, m: usize) -> Wanted
-    ensures { result.size < 40 }
-{
-    let mut entries = [9u16; 40];
-    let mut i = 0;
-    if m == 0 {
-        return Wanted {
-            list: entries,
-            size: 0,
-        };
-    }
-    while i < 39 {
-        let r = i / m;
-        if rows.count <= r {
-            return Wanted {
-                list: entries,
-                size: i,
-            };
-        }
-        entries[i] = place(row(rows, r), i % m);
-        i += 1;
-    }
-    Wanted {
-        list: entries,
-        size: i,
-    }
-}
-
-// The list call itself.
-fn call(list: List, pattern: Pattern, text: &[u16], entries: &mut [u16]) -> Listed {
-    match list {
-        List::Front => matching::leftmost(pattern, text, entries),
-        List::Back => matching::rightmost(pattern, text, entries),
-        List::All => counting::all(pattern, text, entries),
-    }
-}
-
-// The call with the first `room` entries, or with all of them.
-fn call_with(
-    list: List,
+// The call with room for so many entries, all nines.
+fn tried<F: Fn(Pattern, &[u16], &mut [u16]) -> Result<usize, Refusal>>(
+    call: &F,
     pattern: Pattern,
     text: &[u16],
-    entries: &mut [u16],
     room: usize,
-) -> Listed {
-    if room <= entries.len() {
-        return call(list, pattern, text, &mut entries[0..room]);
-    }
-    call(list, pattern, text, entries)
-}
-
-// How many rows, or the refusal's number.
-fn rows_number(answer: Listed) -> u64 {
-    match answer {
-        Listed::Rows(n) => n as u64,
-        Listed::Refused(why) => refused(why),
-    }
-}
-
-// The refusal's place, and 0 where nothing is refused.
-fn rows_place(answer: Listed) -> u64 {
-    match answer {
-        Listed::Rows(_) => 0,
-        Listed::Refused(why) => why.place() as u64,
-    }
-}
-
-// The call with room for so many entries, all nines.
-fn tried(list: List, pattern: Pattern, text: &[u16], room: usize) -> Called {
-    let mut entries = [9u16; 40];
-    let answer = call_with(list, pattern, text, &mut entries, room);
-    Called {
-        number: rows_number(answer),
-        place: rows_place(answer),
-        list: entries,
-        room,
-    }
+) -> Called
+    requires { F.IsAlwaysCallable call.now }
+{
+    let mut list = [9u16; 40];
+    let room = room.min(40);
+    let answer = call(pattern, text, &mut list[..room]);
+    Called { answer, list, room }
 }
 
 // Checks what a call answers and leaves.
 fn check_called(
     rt: &impl Print,
     score: Score,
-    number: u64,
-    place: u64,
-    list: [u16; 40],
+    answer: Result<usize, Refusal>,
+    list: &[u16],
     got: Called,
 ) -> io::Result<Score> {
-    let entries = got.list;
+    let left = got.list;
     let answered = score
-        .number(rt, number, got.number)?
-        .number(rt, place, got.place)?;
-    answered.list(rt, first(&list, got.room), first(&entries, got.room))
+        .number(rt, rows_number(answer), rows_number(got.answer))?
+        .number(rt, rows_place(answer), rows_place(got.answer))?;
+    answered.list(rt, first(list, got.room), first(&left, got.room))
 }
 
-// The place of the refusal 8.
-fn short_place(list: List, count: usize) -> u64 {
-    match list {
-        List::Front => count as u64,
-        List::Back => count as u64,
-        List::All => 0,
-    }
-}
-
-// A list with room for one entry more than its rows, which stays, and with room for one less, where it is refused and all stay.
-fn check_list(
+// A list call with room for one entry more than its rows, which stays, and with room for one less, where it is refused, with this place, and
+// all stay. (No plainer: the lists differ in name, call, rows and place.)
+fn check_list<F: Fn(Pattern, &[u16], &mut [u16]) -> Result<usize, Refusal>>(
     rt: &impl Print,
     score: Score,
     name: &str,
-    list: List,
+    call: &F,
+    case: Case,
     rows: Rows,
-    pattern: Pattern,
-    text: &[u16],
-) -> io::Result<Score> {
-    let wanted = filled(rows, pattern.count);
-    let entries = wanted.list;
-    let size = wanted.size;
-    let long = tried(list, pattern, text, size + 1);
-    show(rt, name, long.number)?;
-    let written = check_called(rt, score, rows.count as u64, 0, entries, long)?;
-    if size == 0 {
+    place: usize,
+) -> io::Result<Score>
+    requires { F.IsAlwaysCallable call.now }
+{
+    let pattern = case.pattern();
+    let wanted = filled(rows);
+    let list = wanted.list;
+    let long = tried(call, pattern, case.words, wanted.size + 1);
+    let answered = rows_number(long.answer);
+    print!(rt; "{name}{answered}")?;
+    let written = check_called(rt, score, Ok(rows.len()), &list, long)?;
+    if wanted.size == 0 {
         return Ok(written);
     }
-    let short = tried(list, pattern, text, size - 1);
-    let place = short_place(list, rows.count);
-    check_called(rt, written, 100008, place, [9u16; 40], short)
+    let short = tried(call, pattern, case.words, wanted.size - 1);
+    let refused = Err(Refusal::ListLength(place));
+    check_called(rt, written, refused, &[9u16; 40], short)
 }
 
 // The count alone.
-fn check_support(
-    rt: &impl Print,
-    score: Score,
-    count: usize,
-    pattern: Pattern,
-    text: &[u16],
-) -> io::Result<Score> {
-    let got = rows_number(matching::support(pattern, text));
-    show(rt, " support ", got)?;
-    score.number(rt, count as u64, got)
+fn check_support(rt: &impl Print, score: Score, case: Case) -> io::Result<Score> {
+    let got = rows_number(matching::support(case.pattern(), case.words));
+    print!(rt; " support {got}")?;
+    score.number(rt, case.front.len() as u64, got)
 }
 
-// The high half of a tally, or the refusal's number.
-fn high_number(answer: Tallied) -> u64 {
-    match answer {
-        Tallied::Total { high, low } => high,
-        Tallied::Refused(why) => refused(why),
-    }
-}
-
-// The low half of a tally, or the refusal's number.
-fn low_number(answer: Tallied) -> u64 {
-    match answer {
-        Tallied::Total { high, low } => low,
-        Tallied::Refused(why) => refused(why),
-    }
-}
-
-// The tally: the high half is 0.
-fn check_tally(
-    rt: &impl Print,
-    score: Score,
-    count: usize,
-    pattern: Pattern,
-    text: &[u16],
-) -> io::Result<Score> {
-    let got = counting::tally(pattern, text);
-    let high = high_number(got);
-    let low = low_number(got);
-    show(rt, " tally ", high)?;
-    show(rt, " ", low)?;
-    let first = score.number(rt, 0, high)?;
-    first.number(rt, count as u64, low)
+// The tally in halves: the high half is 0. (Of a refusal both are its number, as every check is of numbers.)
+fn check_tally(rt: &impl Print, score: Score, case: Case) -> io::Result<Score> {
+    let (high, low) = match counting::tally(case.pattern(), case.words) {
+        Ok(total) => counting::halves(total),
+        Err(why) => (number_of(Err(why)), number_of(Err(why))),
+    };
+    print!(rt; " tally {high} {low}")?;
+    score
+        .number(rt, 0, high)?
+        .number(rt, case.all.len() as u64, low)
 }
 
 // The lists and counts of a text.
-pub fn check_lists(rt: &impl Print, score: Score, case: Case, text: &[u16]) -> io::Result<Score> {
-    let pattern = case.pattern;
-    let rows = case.front;
-    let last = case.back;
-    let every = case.all;
-    let front = check_list(rt, score, ": front ", List::Front, rows, pattern, text)?;
-    let back = check_list(rt, front, " back ", List::Back, last, pattern, text)?;
-    let support = check_support(rt, back, rows.count, pattern, text)?;
-    let all = check_list(rt, support, " all ", List::All, every, pattern, text)?;
-    check_tally(rt, all, every.count, pattern, text)
+pub fn check_lists(rt: &impl Print, score: Score, case: Case) -> io::Result<Score> {
+    let front = |p: Pattern, t: &[u16], l: &mut [u16]| matching::leftmost(p, t, l);
+    let back = |p: Pattern, t: &[u16], l: &mut [u16]| matching::rightmost(p, t, l);
+    let all = |p: Pattern, t: &[u16], l: &mut [u16]| counting::all(p, t, l);
+    let count = case.front.len();
+    let fronts = check_list(rt, score, ": front ", &front, case, case.front, count)?;
+    let backs = check_list(rt, fronts, " back ", &back, case, case.back, count)?;
+    let support = check_support(rt, backs, case)?;
+    let every = check_list(rt, support, " all ", &all, case, case.all, 0)?;
+    check_tally(rt, every, case)
 }

@@ -9,38 +9,29 @@ mod score;
 mod searches;
 mod tables;
 
-ghost use Rattle.std.specs.Prelude.{◌<◌};
-
-use cases::{case_of, first};
 use clients::check_clients;
 use lists::check_lists;
 use rows::check_rows;
-use score::{Score, show};
+use score::Score;
 use searches::check_searches;
 use std::io;
+use tables::{CASES, Case};
 
-// Text number k, counted from 0: a line with what it comes to.
-fn check_text(rt: &impl Print, score: Score, k: usize) -> io::Result<Score>
-    requires { k < 9 }
-{
-    let case = case_of(k);
-    let words = case.words;
-    let text = first(&words, case.length);
-    show(rt, "text ", k as u64 + 1)?;
-    let lists = check_lists(rt, score, case, text)?;
-    let searches = check_searches(rt, lists, case, text)?;
-    let rows = check_rows(rt, searches, case, text)?;
+// A text with its number, counted from 1: a line with what it comes to.
+fn check_text(rt: &impl Print, score: Score, number: usize, case: Case) -> io::Result<Score> {
+    print!(rt; "text {number}")?;
+    let lists = check_lists(rt, score, case)?;
+    let searches = check_searches(rt, lists, case)?;
+    let rows = check_rows(rt, searches, case)?;
     rows.close(rt, score)?;
     Ok(rows)
 }
 
 // The cursors on text 1.
 fn check_cursors(rt: &impl Print, score: Score) -> io::Result<Score> {
-    let case = case_of(0);
-    let words = case.words;
-    let text = first(&words, case.length);
-    show(rt, "cursors on text 1: calls ", 19)?;
-    let clients = check_clients(rt, score, case, text)?;
+    let case = CASES[0];
+    print!(rt; "cursors on text 1: calls 19")?;
+    let clients = check_clients(rt, score, case)?;
     clients.close(rt, score)?;
     Ok(clients)
 }
@@ -48,11 +39,9 @@ fn check_cursors(rt: &impl Print, score: Score) -> io::Result<Score> {
 // Runs the texts, then the cursors, and prints how many checks there were and how many failed.
 fn main(rt: HostRuntime) -> io::Result<()> {
     let mut score = Score::new();
-    for k in 0..9 {
-        score = check_text(&rt, score, k)?;
+    for (k, case) in CASES.iter().enumerate() {
+        score = check_text(&rt, score, k + 1, *case)?;
     }
     score = check_cursors(&rt, score)?;
-    show(&rt, "checks ", score.done)?;
-    show(&rt, " failed ", score.failed)?;
-    println!(rt; "")
+    println!(rt; "checks {} failed {}", score.done, score.failed)
 }

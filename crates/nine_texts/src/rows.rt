@@ -1,101 +1,41 @@
 // The test and the excerpt of rows.
-use crate::cases::{Case, Rows, first, row};
-use crate::score::{Score, refused, show};
-use basics::widen;
-use excerpts::Tested;
-use pattern::Pattern;
+use crate::score::{Score, number_of};
+use crate::tables::Case;
 use std::io;
-use std::num::wrapping_add_u64;
 
-// 1 for an occurrence, 0 for none, or the refusal's number.
-fn tested_number(answer: Tested) -> u64 {
-    match answer {
-        Tested::Yes => 1,
-        Tested::No => 0,
-        Tested::Refused(why) => refused(why),
+// The words from the row's first place to its last, or nothing where there are no such words, as an excerpt is.
+fn part<'a>(text: &'a [u16], row: &[u16]) -> &'a [u16] {
+    match (row.first(), row.last()) {
+        (Some(first), Some(last)) => text
+            .get(usize::from(*first).wrapping_sub(1)..usize::from(*last))
+            .unwrap_or(&[]),
+        _ => &[],
     }
 }
 
-// The words from place a to place e, or nothing where the first of these is no place up to the last.
-fn part(text: &[u16], a: usize, e: usize) -> &[u16] {
-    let head = first(text, e);
-    let n = head.len();
-    if a == 0 {
-        return &head[0..0];
-    }
-    if n < a {
-        return &head[0..0];
-    }
-    &head[a - 1..n]
-}
-
-// The last place of a row of m places.
-fn last(row: [u16; 4], m: usize) -> usize {
-    if m == 0 {
-        return 0;
-    }
-    if 4 < m {
-        return 0;
-    }
-    widen(row[m - 1])
-}
-
-// Tests the row and compares its excerpt.
+// Tests the row and compares its excerpt. (No plainer: two are what every check is handed, two what is expected, and the rest the call's.)
 fn check_row(
     rt: &impl Print,
     score: Score,
     number: u64,
     expected: &[u16],
-    row: [u16; 4],
-    pattern: Pattern,
-    text: &[u16],
+    row: &[u16],
+    case: Case,
 ) -> io::Result<Score> {
-    let places = first(&row, pattern.count);
-    let tested = score.number(
-        rt,
-        number,
-        tested_number(excerpts::is_occurrence(pattern, text, places)),
-    )?;
-    tested.list(rt, expected, excerpts::excerpt(pattern, text, places))
+    let pattern = case.pattern();
+    let tested = number_of(excerpts::is_occurrence(pattern, case.words, row).map(u64::from));
+    score
+        .number(rt, number, tested)?
+        .list(rt, expected, excerpts::excerpt(pattern, case.words, row))
 }
 
-// An occurrence is one, and its excerpt goes from its first place to its last.
-fn check_hit(
-    rt: &impl Print,
-    score: Score,
-    row: [u16; 4],
-    pattern: Pattern,
-    text: &[u16],
-) -> io::Result<Score> {
-    let expected = part(text, widen(row[0]), last(row, pattern.count));
-    check_row(rt, score, 1, expected, row, pattern, text)
-}
-
-// The occurrences in rows of the table.
-fn check_hits(
-    rt: &impl Print,
-    score: Score,
-    rows: Rows,
-    pattern: Pattern,
-    text: &[u16],
-) -> io::Result<Score> {
-    let mut after = score;
-    for r in 0..rows.count {
-        after = check_hit(rt, after, row(rows, r), pattern, text)?;
+// All occurrences of a text, each with an excerpt from its first place to its last, and the row that is none.
+pub fn check_rows(rt: &impl Print, score: Score, case: Case) -> io::Result<Score> {
+    let tests = (case.all.len() as u64).wrapping_add(1);
+    print!(rt; " tests and excerpts {tests}")?;
+    let mut checked = check_row(rt, score, 0, &[], case.none, case)?;
+    for row in case.all {
+        checked = check_row(rt, checked, 1, part(case.words, row), row, case)?;
     }
-    Ok(after)
-}
-
-// All occurrences of a text, and the row that is none.
-pub fn check_rows(rt: &impl Print, score: Score, case: Case, text: &[u16]) -> io::Result<Score> {
-    let pattern = case.pattern;
-    let rows = case.all;
-    let none = case.none;
-    show(
-        rt,
-        " tests and excerpts ",
-        wrapping_add_u64(rows.count as u64, 1),
-    )?;
-    let tested = check_row(rt, score, 0, first(text, 0), none, pattern, text)?;
-    check_hits(rt, tested, rows, pattern, text)
+    Ok(checked)
 }

@@ -1,8 +1,6 @@
 // Checks, counted; what a failed one expected and got is written.
-use basics::widen;
 use pattern::Refusal;
 use std::io;
-use std::num::{wrapping_add_u64, wrapping_sub_u64};
 
 // How many checks were done, and how many of them failed.
 #[derive(Clone, Copy)]
@@ -11,36 +9,20 @@ pub struct Score {
     pub failed: u64,
 }
 
-// A refusal as a number: 100,000 and its own.
-pub fn refused(why: Refusal) -> u64 {
-    100000 + why.number() as u64
+// What a call answers as one number, a refusal as 100,000 and its own: the checks are of numbers, and so printed.
+pub fn number_of(answer: Result<u64, Refusal>) -> u64 {
+    match answer {
+        Ok(n) => n,
+        Err(why) => 100000 + u64::from(why.number()),
+    }
 }
 
-// Writes a name and a number.
-pub fn show(rt: &impl Print, name: &str, n: u64) -> io::Result<()> {
-    print!(rt; "{name}{n}")
-}
-
-// Writes the entries of a list, each after a space.
+// Writes the entries of a list, each after a space. (The programs share no crate, so that each reads alone.)
 fn show_list(rt: &impl Print, list: &[u16]) -> io::Result<()> {
-    for i in 0..list.len() {
-        show(rt, " ", widen(list[i]) as u64)?;
+    for entry in list {
+        print!(rt; " {entry}")?;
     }
     Ok(())
-}
-
-// Whether two lists have the same entries.
-fn same(a: &[u16], b: &[u16]) -> bool {
-    let n = a.len();
-    if b.len() != n {
-        return false;
-    }
-    for i in 0..n {
-        if a[i] != b[i] {
-            return false;
-        }
-    }
-    true
 }
 
 impl Score {
@@ -52,8 +34,8 @@ impl Score {
     // With one check more.
     fn with(self, failed: u64) -> Self {
         Score {
-            done: wrapping_add_u64(self.done, 1),
-            failed: wrapping_add_u64(self.failed, failed),
+            done: self.done.wrapping_add(1),
+            failed: self.failed.wrapping_add(failed),
         }
     }
 
@@ -68,7 +50,7 @@ impl Score {
 
     // Checks a list.
     pub fn list(self, rt: &impl Print, expected: &[u16], got: &[u16]) -> io::Result<Self> {
-        if same(expected, got) {
+        if expected == got {
             return Ok(self.with(0));
         }
         print!(rt; " [expected")?;
@@ -84,11 +66,6 @@ impl Score {
         if self.failed == before.failed {
             return println!(rt; ": as expected");
         }
-        show(
-            rt,
-            ": failed ",
-            wrapping_sub_u64(self.failed, before.failed),
-        )?;
-        println!(rt; "")
+        println!(rt; ": failed {}", self.failed.wrapping_sub(before.failed))
     }
 }

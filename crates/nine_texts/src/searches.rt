@@ -1,137 +1,66 @@
 // Searches from the start, from the end, and from each row of the front and back lists.
-use crate::cases::{Case, Rows, first, padded, row};
-use crate::score::{Score, refused, show};
-use matching::{Outcome, Search};
-use pattern::Pattern;
+use crate::cases::padded;
+use crate::score::{Score, number_of};
+use crate::tables::Case;
+use pattern::Refusal;
 use std::io;
-use std::num::wrapping_add_u64;
 
-// Where a search starts, and what it should find: 1 and a row, or 0 and zeros.
-#[derive(Clone, Copy)]
-struct Step {
-    marks: [u16; 4],
-    number: u64,
-    row: [u16; 4],
+// 1 for an occurrence, 0 for none, or the refusal as a number.
+pub fn found_number(found: Result<Option<[u16; 16]>, Refusal>) -> u64 {
+    number_of(found.map(|places| u64::from(places.is_some())))
 }
 
-// What search number k of the front list is: from row k, counted from 1, or from zeros, to the row after it.
-fn forward(rows: Rows, k: usize) -> Step {
-    let mut marks = [0u16; 4];
-    if 0 < k {
-        marks = row(rows, k - 1);
-    }
-    if k < rows.count {
-        return Step {
-            marks,
-            number: 1,
-            row: row(rows, k),
-        };
-    }
-    Step {
-        marks,
-        number: 0,
-        row: [0u16; 4],
-    }
+// The occurrence's places, or zeros: a list is checked for each search, whatever it answers.
+pub fn found_places(found: Result<Option<[u16; 16]>, Refusal>) -> [u16; 16] {
+    found.unwrap_or(None).unwrap_or([0u16; 16])
 }
 
-// What search number k of the back list is: from row k, counted from 0, or from marks past every place, to the row before it.
-fn backward(rows: Rows, k: usize) -> Step {
-    let mut marks = [65535u16; 4];
-    if k < rows.count {
-        marks = row(rows, k);
-    }
-    if 0 < k {
-        return Step {
-            marks,
-            number: 1,
-            row: row(rows, k - 1),
-        };
-    }
-    Step {
-        marks,
-        number: 0,
-        row: [0u16; 4],
-    }
-}
-
-// 1 for an occurrence, 0 for none, or the refusal's number.
-pub fn outcome_number(outcome: Outcome) -> u64 {
-    match outcome {
-        Outcome::Found => 1,
-        Outcome::Absent => 0,
-        Outcome::Refused(why) => refused(why),
-    }
-}
-
-// One search's answer.
-fn check_search(rt: &impl Print, score: Score, step: Step, found: Search) -> io::Result<Score> {
-    let outcome = found.outcome;
-    let places = found.places;
-    let row = step.row;
-    let expected = padded(row);
+// One search's answer: this row, or none.
+fn check_search(
+    rt: &impl Print,
+    score: Score,
+    row: Option<&[u16]>,
+    found: Result<Option<[u16; 16]>, Refusal>,
+) -> io::Result<Score> {
+    let expected = padded(row.unwrap_or(&[]));
     score
-        .number(rt, step.number, outcome_number(outcome))?
-        .list(rt, &expected, &places)
+        .number(rt, u64::from(row.is_some()), found_number(found))?
+        .list(rt, &expected, &found_places(found))
 }
 
-// Search number k of the front list.
-fn search_forward(
-    rt: &impl Print,
-    score: Score,
-    rows: Rows,
-    k: usize,
-    pattern: Pattern,
-    text: &[u16],
-) -> io::Result<Score> {
-    let step = forward(rows, k);
-    let marks = step.marks;
-    let found = matching::first_after(pattern, text, first(&marks, pattern.count));
-    check_search(rt, score, step, found)
+// Search number k of the front list: from row k, counted from 1, or from zeros, to the row after it.
+fn search_forward(rt: &impl Print, score: Score, case: Case, k: usize) -> io::Result<Score> {
+    let pattern = case.pattern();
+    let zeros = [0u16; 4];
+    let start = &zeros[..pattern.count.min(4)];
+    let marks = match k.checked_sub(1).and_then(|r| case.front.get(r)) {
+        Some(row) => *row,
+        None => start,
+    };
+    let found = matching::first_after(pattern, case.words, marks);
+    check_search(rt, score, case.front.get(k).copied(), found)
 }
 
-// Search number k of the back list.
-fn search_backward(
-    rt: &impl Print,
-    score: Score,
-    rows: Rows,
-    k: usize,
-    pattern: Pattern,
-    text: &[u16],
-) -> io::Result<Score> {
-    let step = backward(rows, k);
-    let marks = step.marks;
-    let found = matching::last_before(pattern, text, first(&marks, pattern.count));
-    check_search(rt, score, step, found)
+// Search number k of the back list: from row k, counted from 0, or from marks past every place, to the row before it.
+fn search_backward(rt: &impl Print, score: Score, case: Case, k: usize) -> io::Result<Score> {
+    let pattern = case.pattern();
+    let far = [65535u16; 4];
+    let end = &far[..pattern.count.min(4)];
+    let marks = case.back.get(k).copied().unwrap_or(end);
+    let found = matching::last_before(pattern, case.words, marks);
+    let row = k.checked_sub(1).and_then(|r| case.back.get(r));
+    check_search(rt, score, row.copied(), found)
 }
 
-// One search more in each direction than there are rows.
-fn check_each(
-    rt: &impl Print,
-    score: Score,
-    front: Rows,
-    back: Rows,
-    pattern: Pattern,
-    text: &[u16],
-) -> io::Result<Score> {
-    let mut after = score;
-    for k in 0..=front.count {
-        after = search_forward(rt, after, front, k, pattern, text)?;
-        after = search_backward(rt, after, back, k, pattern, text)?;
+// The searches of a text: one more in each direction than there are rows.
+pub fn check_searches(rt: &impl Print, score: Score, case: Case) -> io::Result<Score> {
+    let rows = case.front.len();
+    let searches = (rows as u64).wrapping_add(1).wrapping_mul(2);
+    print!(rt; " searches {searches}")?;
+    let mut checked = score;
+    for k in 0..=rows {
+        checked = search_forward(rt, checked, case, k)?;
+        checked = search_backward(rt, checked, case, k)?;
     }
-    Ok(after)
-}
-
-// The searches of a text.
-pub fn check_searches(
-    rt: &impl Print,
-    score: Score,
-    case: Case,
-    text: &[u16],
-) -> io::Result<Score> {
-    let pattern = case.pattern;
-    let front = case.front;
-    let back = case.back;
-    let each = wrapping_add_u64(front.count as u64, 1);
-    show(rt, " searches ", wrapping_add_u64(each, each))?;
-    check_each(rt, score, front, back, pattern, text)
+    Ok(checked)
 }

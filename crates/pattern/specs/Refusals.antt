@@ -1,5 +1,5 @@
 -- The number and the place of each refusal (document 01, "Turned away"; 16: document 02, Job 3; 17 to 19: Job 5; 20 to 22: Job 9).
-use Rattle.std.specs.Prelude.{ℕ}
+use Rattle.std.specs.Prelude.{ℕ, List, ◌++◌, codes, decimal}
 use Rattle.pattern.specs.declared.refusal.Refusal.{Refusal}
 use Rattle.pattern.specs.declared.refusal.Refusal.TheVariants.{SlotCount, WordCount, ZeroWord, Gap, Span, TextLength, RowLength, ListLength, Tally, Names, Values, FileLength, WordListLength, Client, Served, WordOrder, SlotsDiffer, NothingShared, TooManyWords, NotExpression, TooDeep, UnequalLengths}
 
@@ -52,3 +52,7 @@ place_of TooManyWords = 0
 place_of NotExpression = 0
 place_of TooDeep = 0
 place_of UnequalLengths = 0
+
+-- as text: `refused`, its number and its place
+abbrev pub shown : Refusal → List ℕ
+shown why = codes "refused " ++ decimal (number_of why) ++ codes " " ++ decimal (place_of why)

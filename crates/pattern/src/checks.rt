@@ -1,16 +1,14 @@
-ghost use Rattle.std.specs.Prelude.{◌≡◌, ◌≤◌};
-ghost use Rattle.pattern.specs.Tests.{widest_gap, fewest_words, slot_verdict, order_verdict, slots_verdict, span_verdict};
+// The tests of a slot and of the span limits.
+ghost use Rattle.std.specs.Prelude.{◌≡◌};
+ghost use Rattle.pattern.specs.Tests.{widest_gap, fewest_words, slot_verdict, order_verdict, span_verdict};
 
-use crate::{Pattern, Refusal, Slot, Verdict};
+use crate::{Pattern, Refusal, Slot};
 
 // The widest gap that may stand before slot number k.
 fn widest(k: usize) -> u16
     ensures { result ≡ widest_gap k }
 {
-    if k == 1 {
-        return 0;
-    }
-    Pattern::HIGH
+    if k == 1 { 0 } else { Pattern::HIGH }
 }
 
 // The fewest words of a slot: one, or none where it is excluding.
@@ -22,81 +20,52 @@ fn fewest(excluding: bool) -> usize
 
 // Tests 2, 3 and 4 of slot number k.
 #[tactic(auto, unfolding(crate::specs::Tests::slot_verdict))]
-pub(crate) fn slot_verdict(k: usize, slot: Slot) -> Verdict
+pub(crate) fn slot_verdict(k: usize, slot: Slot) -> Result<(), Refusal>
     ensures { result ≡ slot_verdict k slot }
 {
     let count = slot.count;
     if count < fewest(slot.excluding) {
-        return Verdict::Refused(Refusal::WordCount(k));
+        return Err(Refusal::WordCount(k));
     }
     if Pattern::WORDS < count {
-        return Verdict::Refused(Refusal::WordCount(k));
+        return Err(Refusal::WordCount(k));
     }
-    let zero = slot.lists(0);
-    if zero {
-        return Verdict::Refused(Refusal::ZeroWord(k));
+    if slot.lists(0) {
+        return Err(Refusal::ZeroWord(k));
     }
-    let high = slot.high;
-    if high < slot.low {
-        return Verdict::Refused(Refusal::Gap(k));
+    if slot.high < slot.low {
+        return Err(Refusal::Gap(k));
     }
-    let limit = widest(k);
-    if limit < high {
-        return Verdict::Refused(Refusal::Gap(k));
+    if widest(k) < slot.high {
+        return Err(Refusal::Gap(k));
     }
-    Verdict::Accepted
+    Ok(())
 }
 
-// Tests 2, 3 and 4, slot by slot.
-#[tactic(auto, using(crate::specs::Laws::Verdicts::slots_refused, crate::specs::Laws::Verdicts::slots_on, crate::specs::Laws::Verdicts::slots_end))]
-pub(crate) fn slots_verdict(pattern: Pattern) -> Verdict
-    requires { pattern.count ≤ 16 }
-    ensures { result ≡ slots_verdict slot_verdict pattern 0 pattern.count }
+// Test 16 of slot number k.
+pub(crate) fn order_verdict(k: usize, slot: Slot) -> Result<(), Refusal>
+    ensures { result ≡ order_verdict k slot }
 {
-    let count = pattern.count;
-    let mut j = 0;
-    while j < count {
-        let slot = pattern.slots[j];
-        let verdict = slot_verdict(j + 1, slot);
-        if let Verdict::Refused(why) = verdict {
-            return Verdict::Refused(why);
-        }
-        j += 1;
+    if slot.rises() {
+        Ok(())
+    } else {
+        Err(Refusal::WordOrder(k))
     }
-    Verdict::Accepted
-}
-
-// Test 16, slot by slot.
-#[tactic(auto, using(crate::specs::Laws::Verdicts::slots_refused, crate::specs::Laws::Verdicts::slots_on, crate::specs::Laws::Verdicts::slots_end))]
-pub(crate) fn order_verdict(pattern: Pattern) -> Verdict
-    requires { pattern.count ≤ 16 }
-    ensures { result ≡ slots_verdict order_verdict pattern 0 pattern.count }
-{
-    let count = pattern.count;
-    let mut j = 0;
-    while j < count {
-        let slot = pattern.slots[j];
-        if !slot.rises() {
-            return Verdict::Refused(Refusal::WordOrder(j + 1));
-        }
-        j += 1;
-    }
-    Verdict::Accepted
 }
 
 // Test 5.
 #[tactic(auto, unfolding(crate::specs::Tests::span_verdict))]
-pub(crate) fn span_verdict(least: u16, most: u16) -> Verdict
+pub(crate) fn span_verdict(least: u16, most: u16) -> Result<(), Refusal>
     ensures { result ≡ span_verdict least most }
 {
     if least == 0 {
-        return Verdict::Refused(Refusal::Span);
+        return Err(Refusal::Span);
     }
     if most < least {
-        return Verdict::Refused(Refusal::Span);
+        return Err(Refusal::Span);
     }
     if Pattern::MOST < most {
-        return Verdict::Refused(Refusal::Span);
+        return Err(Refusal::Span);
     }
-    Verdict::Accepted
+    Ok(())
 }

@@ -1,20 +1,23 @@
 // Patterns with gap and length constraints, the limits they keep to, and why one is refused.
 #![tactic(auto)]
 
-ghost use Rattle.std.specs.Prelude.{◌≡◌};
+ghost use Rattle.std.specs.Prelude.{◌≡◌, ℕ, ◌≤◌};
 ghost use Rattle.pattern.specs.Patterns.{empty_pattern, with_span};
-ghost use Rattle.pattern.specs.Tests.{pattern_verdict, input_verdict};
+ghost use Rattle.pattern.specs.Tests.{Verdict, slots_verdict, pattern_verdict, input_verdict};
 ghost use Rattle.pattern.specs.Adding.{extended};
+ghost use Rattle.pattern.specs.declared.slot.Slot.{Slot};
 
 mod checks;
 mod refusal;
 mod slot;
 mod words;
 
-pub use refusal::{Refusal, Verdict};
+use checks::{order_verdict, slot_verdict, span_verdict};
+pub use refusal::Refusal;
 pub use slot::Slot;
 
-// A pattern with gap and length constraints (document 01: frame; 004, Definition 2).
+// A pattern with gap and length constraints (document 01: frame; 004, Definition 2). C has the same struct, so the number of slots stands
+// beside them.
 #[repr(C)]
 #[derive(Clone, Copy)]
 pub struct Pattern {
@@ -22,13 +25,6 @@ pub struct Pattern {
     pub count: usize,
     pub least: u16,
     pub most: u16,
-}
-
-// What adding a slot gives: the pattern, with that slot or, where the slot is refused, as it was.
-#[derive(Clone, Copy)]
-pub struct Extended {
-    pub verdict: Verdict,
-    pub pattern: Pattern,
 }
 
 impl Pattern {
@@ -75,84 +71,77 @@ impl Pattern {
     pub fn with_span(self, least: u16, most: u16) -> Self
         ensures { result ≡ with_span self least most }
     {
-        let slots = self.slots;
         Pattern {
-            slots,
-            count: self.count,
             least,
             most,
+            ..self
         }
     }
 
     // The pattern with one slot more, after the others; its words are put in rising order, each once.
     #[tactic(auto, unfolding(crate::specs::Adding::extended))]
-    pub fn with_slot(self, low: u16, high: u16, excluding: bool, words: &[u16]) -> Extended
+    pub fn with_slot(
+        self,
+        low: u16,
+        high: u16,
+        excluding: bool,
+        words: &[u16],
+    ) -> Result<Self, Refusal>
         ensures { result ≡ extended self low high excluding words.now }
     {
         let count = self.count;
         if Pattern::SLOTS <= count {
-            return Extended {
-                verdict: Verdict::Refused(Refusal::SlotCount),
-                pattern: self,
-            };
+            return Err(Refusal::SlotCount);
         }
         let slot = Slot::of(low, high, excluding, words);
-        let verdict = checks::slot_verdict(count + 1, slot);
-        if let Verdict::Refused(why) = verdict {
-            return Extended {
-                verdict: Verdict::Refused(why),
-                pattern: self,
-            };
+        slot_verdict(count + 1, slot)?;
+        let mut longer = self;
+        longer.slots[count] = slot.canonical();
+        longer.count = count + 1;
+        Ok(longer)
+    }
+
+    // A test of each slot with its number, from the first slot on, up to the first that is refused.
+    pub fn check_slots<F: Fn(usize, Slot) -> Result<(), Refusal>>(
+        &self,
+        test: F,
+    ) -> Result<(), Refusal>
+        requires { (k : ℕ) (s : Slot) → F.pre test k s }
+        ensures { (told : ℕ → Slot → Verdict) → ((k : ℕ) (s : Slot) (r : Verdict) → F.post test k s r → r ≡ told k s) → self.now.count ≤ 16 → result ≡ slots_verdict told self.now 0 self.now.count }
+    {
+        let count = self.count.min(Pattern::SLOTS);
+        // for over indices: the test is given each slot's number, so an iterator over the slots would need them too and be no plainer
+        for j in 0..count {
+            test(j + 1, self.slots[j])?;
         }
-        let held = slot.canonical();
-        let mut slots = self.slots;
-        slots[count] = held;
-        Extended {
-            verdict: Verdict::Accepted,
-            pattern: Pattern {
-                slots,
-                count: count + 1,
-                least: self.least,
-                most: self.most,
-            },
-        }
+        Ok(())
     }
 
     // The first of the tests 1 to 5 and 16 that the pattern fails.
     #[tactic(auto, unfolding(crate::specs::Tests::pattern_verdict, crate::specs::Tests::limits_verdict))]
-    pub fn check(self) -> Verdict
-        ensures { result ≡ pattern_verdict self }
+    pub fn check(&self) -> Result<(), Refusal>
+        ensures { result ≡ pattern_verdict self.now }
     {
-        let count = self.count;
-        if count == 0 {
-            return Verdict::Refused(Refusal::SlotCount);
+        if self.count == 0 {
+            return Err(Refusal::SlotCount);
         }
-        if Pattern::SLOTS < count {
-            return Verdict::Refused(Refusal::SlotCount);
+        if Pattern::SLOTS < self.count {
+            return Err(Refusal::SlotCount);
         }
-        let verdict = checks::slots_verdict(self);
-        if let Verdict::Refused(why) = verdict {
-            return Verdict::Refused(why);
-        }
-        let span = checks::span_verdict(self.least, self.most);
-        if let Verdict::Refused(why) = span {
-            return Verdict::Refused(why);
-        }
-        checks::order_verdict(self)
+        self.check_slots(slot_verdict)?;
+        span_verdict(self.least, self.most)?;
+        self.check_slots(order_verdict)
     }
 
     // The first of the tests 1 to 5, 16 and 6 that the pattern and a text of so many words fail.
     #[tactic(auto, unfolding(crate::specs::Tests::input_verdict))]
-    pub fn check_with(self, words: usize) -> Verdict
-        ensures { result ≡ input_verdict self words }
+    pub fn check_with(&self, words: usize) -> Result<(), Refusal>
+        ensures { result ≡ input_verdict self.now words }
     {
-        let verdict = self.check();
-        if let Verdict::Refused(why) = verdict {
-            return Verdict::Refused(why);
-        }
+        self.check()?;
         if Pattern::TEXT < words {
-            return Verdict::Refused(Refusal::TextLength);
+            return Err(Refusal::TextLength);
         }
-        Verdict::Accepted
+        Ok(())
     }
 }

@@ -1,8 +1,11 @@
-ghost use Rattle.std.specs.Prelude.{◌≡◌};
-ghost use Rattle.pattern.specs.Refusals.{number_of, place_of};
+ghost use Rattle.std.specs.Prelude.{◌≡◌, Some};
+ghost use Rattle.pattern.specs.Refusals.{number_of, place_of, shown};
+
+use std::error::Error;
+use std::fmt;
 
 // Why a call is refused: a case for each number of document 01's table, in its order, then document 02's. What a case carries is its place.
-#[derive(Clone, Copy)]
+#[derive(Clone, Copy, Debug, PartialEq, Eq)]
 pub enum Refusal {
     SlotCount,
     WordCount(usize),
@@ -26,13 +29,6 @@ pub enum Refusal {
     NotExpression,
     TooDeep,
     UnequalLengths,
-}
-
-// Whether what was handed in is accepted, and if not, why.
-#[derive(Clone, Copy)]
-pub enum Verdict {
-    Accepted,
-    Refused(Refusal),
 }
 
 impl Refusal {
@@ -66,7 +62,7 @@ impl Refusal {
         }
     }
 
-    // The slot, the line or the count that belongs to the number, or 0.
+    // The slot, the line or the count that belongs to the number, or 0: no Option, since the clause (`place_of`) and C have the 0.
     pub fn place(self) -> usize
         ensures { result ≡ place_of self }
     {
@@ -96,3 +92,14 @@ impl Refusal {
         }
     }
 }
+
+impl fmt::Display for Refusal {
+    ghost output = { λ why. Some (shown why) };
+
+    // `refused`, its number and its place.
+    fn fmt<W: fmt::Write>(&self, f: &mut fmt::Formatter<W>) -> fmt::Result {
+        write!(f, "refused {} {}", self.number(), self.place())
+    }
+}
+
+impl Error for Refusal {}

@@ -4,9 +4,9 @@ ghost use Rattle.pattern.specs.Numbers.{Numbers, mark_number, numbers_take};
 ghost use Rattle.pattern.specs.Words.{rises, canonical};
 
 use crate::words::{rises, sorted};
-use basics::{smaller, widen};
 
-// One element of a pattern (document 01: slot): the words it lists, the gap before it, and whether it takes these or any but these.
+// One element of a pattern (document 01: slot): the words it lists, the gap before it, and whether it takes these or any but these. C has
+// the same struct, so the number of words stands beside them.
 #[repr(C)]
 #[derive(Clone, Copy)]
 pub struct Slot {
@@ -22,13 +22,11 @@ pub struct Slot {
 fn lists(words: &[u16], count: usize, word: u16) -> bool
     ensures { result ≡ member word (take count words.now) }
 {
-    let n = smaller(count, words.len());
-    let mut i = 0;
-    while i < n {
+    // for: tried with `any`, and the proof didn't close
+    for i in 0..count.min(words.len()) {
         if words[i] == word {
             return true;
         }
-        i += 1;
     }
     false
 }
@@ -43,33 +41,27 @@ fn taken(excluding: bool, word: u16, listed: bool) -> bool
     listed
 }
 
-// The mark as a number: 1 for an excluding slot, else 0.
+// The mark as a number: 1 for an excluding slot, else 0. (A number, as in all of `numbers`, of which `numbers_taken` speaks.)
 fn mark_number(excluding: bool) -> u16
     ensures { result ≡ mark_number excluding }
 {
-    if excluding { 1 } else { 0 }
+    u16::from(excluding)
 }
 
 // How many of a slot's eight words count.
 fn stated(count: usize) -> u16
     ensures { result ≡ min count 8 }
 {
-    if count < 8 {
-        return count as u16;
-    }
-    8
+    count.min(8) as u16
 }
 
 // The first eight of the words, and 0 in the entries that they leave.
-#[tactic(auto, using(basics::specs::Laws::Arrays::pasted_more, crate::proofs::Arrays::pasted_all))]
 fn eight(words: &[u16]) -> [u16; 8]
     ensures { result ≡ padded words.now }
 {
-    let n = smaller(words.len(), 8);
+    let n = words.len().min(8);
     let mut entries = [0u16; 8];
-    for i in 0..n {
-        entries[i] = words[i];
-    }
+    entries[..n].copy_from_slice(&words[..n]);
     entries
 }
 
@@ -88,28 +80,25 @@ impl Slot {
     }
 
     // Whether the slot lists the word.
-    pub fn lists(self, word: u16) -> bool
-        ensures { result ≡ lists self word }
+    pub fn lists(&self, word: u16) -> bool
+        ensures { result ≡ lists self.now word }
     {
-        let words = self.words;
-        lists(&words, self.count, word)
+        lists(&self.words, self.count, word)
     }
 
     // Whether the slot takes the word.
     #[tactic(auto, unfolding(crate::specs::Patterns::takes))]
-    pub fn takes(self, word: u16) -> bool
-        ensures { result ≡ takes self word }
+    pub fn takes(&self, word: u16) -> bool
+        ensures { result ≡ takes self.now word }
     {
-        let listed = self.lists(word);
-        taken(self.excluding, word, listed)
+        taken(self.excluding, word, self.lists(word))
     }
 
     // Whether the words that the slot states rise strictly.
-    pub(crate) fn rises(self) -> bool
-        ensures { result ≡ rises (stated self) }
+    pub(crate) fn rises(&self) -> bool
+        ensures { result ≡ rises (stated self.now) }
     {
-        let words = self.words;
-        rises(&words, self.count)
+        rises(&self.words, self.count)
     }
 
     // The slot as a pattern holds it: its words in rising order, each once; where it states more than eight, as it is.
@@ -117,19 +106,15 @@ impl Slot {
     pub fn canonical(self) -> Self
         ensures { result ≡ canonical self }
     {
-        let count = self.count;
-        if 8 < count {
+        if 8 < self.count {
             return self;
         }
-        let words = self.words;
-        let rising = sorted(&words[0..count]);
-        let entries = rising.entries;
+        let rising = sorted(&self.words[..self.count]);
+        let words = rising.entries;
         Slot {
-            words: entries,
+            words,
             count: rising.count,
-            low: self.low,
-            high: self.high,
-            excluding: self.excluding,
+            ..self
         }
     }
 
@@ -137,10 +122,7 @@ impl Slot {
     pub fn with_gap(self, low: u16, high: u16) -> Self
         ensures { result ≡ with_gap self low high }
     {
-        let mut slot = self;
-        slot.low = low;
-        slot.high = high;
-        slot
+        Slot { low, high, ..self }
     }
 
     // The slot as twelve numbers: the two bounds of its gap, its mark, how many words it states, and its eight words.
@@ -165,7 +147,7 @@ impl Slot {
         ]
     }
 
-    // Whether the slot with these numbers takes the word.
+    // Whether the slot with these numbers takes the word. (Its mark is a number: the theorem `numbers_taken` speaks of it.)
     #[tactic(auto, unfolding(crate::specs::Numbers::numbers_take))]
     pub fn numbers_take(numbers: &[u16], word: u16) -> bool
         ensures { result ≡ numbers_take numbers.now word }
@@ -173,7 +155,7 @@ impl Slot {
         if numbers.len() < 12 {
             return false;
         }
-        let listed = lists(&numbers[4..12], widen(numbers[3]), word);
+        let listed = lists(&numbers[4..12], usize::from(numbers[3]), word);
         taken(numbers[2] == 1, word, listed)
     }
 }

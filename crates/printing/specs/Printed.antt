@@ -1,18 +1,15 @@
 -- A pattern as a file (document 02, Job 3), and what writing it gives.
-use Rattle.std.specs.Prelude.{ℕ, List, map, length, take, ltb}
+use Rattle.std.specs.Prelude.{ℕ, List, map, length, take, ltb, Ok, Err, Result}
 use Rattle.basics.specs.Choice.{pick}
 use Rattle.basics.specs.Written.{over}
 use Rattle.pattern.specs.declared.slot.Slot.{Slot}
 use Rattle.pattern.specs.declared.Pattern.{Pattern}
+use Rattle.pattern.specs.declared.refusal.Refusal.{Refusal}
 use Rattle.pattern.specs.declared.refusal.Refusal.TheVariants.{ListLength}
-use Rattle.pattern.specs.declared.refusal.Verdict.{Verdict}
-use Rattle.pattern.specs.declared.refusal.Verdict.TheVariants.{Accepted, Refused as NotAccepted}
 use Rattle.pattern.specs.Patterns.{stated}
-use Rattle.pattern.specs.Tests.{pattern_verdict}
+use Rattle.pattern.specs.Tests.{Verdict, pattern_verdict}
 use Rattle.format.specs.Patterns.{SlotLine}
 use Rattle.format.specs.Shown.{closed, file_lines, paper_order}
-use Rattle.printing.specs.declared.writing.PatternWritten.{PatternWritten}
-use Rattle.printing.specs.declared.writing.PatternWritten.TheVariants.{Bytes, Refused}
 
 -- ---- the file
 
@@ -35,18 +32,18 @@ most_printed = 916
 -- ---- the answer: the tests 1 to 5 and 16, then 8 where the list is too short for the file
 
 -- the answer for a file of `size` bytes and a list of `room` entries, where the tests come to the verdict
-abbrev pub printed_by : Verdict → ℕ → ℕ → PatternWritten
-printed_by (NotAccepted why) size room = Refused why
-printed_by Accepted size room = pick (ltb room size) (Refused (ListLength 0)) (Bytes size)
+abbrev pub printed_by : Verdict → ℕ → ℕ → Result ℕ Refusal
+printed_by (Err why) size room = Err why
+printed_by (Ok tt) size room = pick (ltb room size) (Err (ListLength 0)) (Ok size)
 
 -- how many bytes are written, or why none
-abbrev pub pattern_printed : Pattern → ℕ → PatternWritten
+abbrev pub pattern_printed : Pattern → ℕ → Result ℕ Refusal
 pattern_printed f room = printed_by (pattern_verdict f) (length (pattern_text f)) room
 
 -- what the list holds by the answer: the file over its start, or all of it as it was
-abbrev pub written_by : PatternWritten → List ℕ → List ℕ → List ℕ
-written_by (Refused why) text out = out
-written_by (Bytes n) text out = over out text
+abbrev pub written_by : Result ℕ Refusal → List ℕ → List ℕ → List ℕ
+written_by (Err why) text out = out
+written_by (Ok n) text out = over out text
 
 -- what the list holds after the call
 abbrev pub pattern_written : Pattern → List ℕ → List ℕ

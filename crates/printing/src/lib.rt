@@ -1,10 +1,9 @@
 // Writing a pattern as a file, in one way.
 #![tactic(auto)]
 
-mod sizes;
 mod writing;
 
-pub use writing::{PatternWritten, write_pattern};
+pub use writing::write_pattern;
 
 // The most bytes of a pattern's file as it is written.
 pub const PATTERN_FILE: usize = 916;

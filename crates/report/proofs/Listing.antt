@@ -1,7 +1,6 @@
 -- The two lists as they are printed: the entries of their rows, equally many.
-use Prim.Native.Nat.{ℕ, ◌-◌, ◌*◌, ◌≤◌}
+use Prim.Native.Nat.{ℕ, ◌*◌, ◌≤◌}
 use native.Mathlib.Omega.{arith}
-use native.Mathlib.Nat.{sub-zero}
 use mathlib.Core.Path.{◌≡◌, sym, ap, ◌∙◌}
 use mathlib.Core.Bool.{false}
 use mathlib.Core.List.{List}
@@ -9,6 +8,7 @@ use lib.Dec.{ltb}
 use lib.ListN.{length, take, drop, replicate, length-replicate}
 use lib.Seq.{take_at}
 use borrow.Author.Tests.{le-ltb}
+use Rattle.std.specs.Prelude.{Result, Ok, Err}
 use Rattle.pattern.specs.declared.Pattern.{Pattern}
 use Rattle.pattern.specs.declared.refusal.Refusal.{Refusal}
 use Rattle.pattern.specs.Laws.Accepting.{input-accepted}
@@ -19,8 +19,6 @@ use Rattle.basics.specs.Laws.Written.{length-flat}
 use Rattle.matching.specs.Lists.{leftmost, rightmost}
 use Rattle.matching.specs.Occurrence.{Occurs}
 use Rattle.basics.specs.Written.{flat, written}
-use Rattle.matching.specs.declared.rows.Listed.{Listed}
-use Rattle.matching.specs.declared.rows.Listed.TheVariants.{Rows, Refused as NotListed}
 use Rattle.counting.specs.Answers.{tallied}
 use Rattle.report.specs.Lines.{table_report, lists_report, refusal_report}
 use Rattle.report.specs.Report.{after_lists, after_tally, search_report}
@@ -36,9 +34,9 @@ entries_first m R l n e = take_at (flat R) (drop (length R * m) l) n e
 
 -- ---- the front list
 
-report_of : (f : Pattern) (t l : List ℕ) {a : Listed} → length l ≡ 16000 → front_listed f t (length l) ≡ a → after_lists a f t ≡ search_report f t
+report_of : (f : Pattern) (t l : List ℕ) {a : Result ℕ Refusal} → length l ≡ 16000 → front_listed f t (length l) ≡ a → after_lists a f t ≡ search_report f t
 unfolding search_report
-report_of f t l size e = ap (λ (x : Listed). after_lists x f t) (sym e ∙ ap (front_listed f t) size)
+report_of f t l size e = ap (λ (x : Result ℕ Refusal). after_lists x f t) (sym e ∙ ap (front_listed f t) size)
 
 -- ---- the back list
 
@@ -46,8 +44,8 @@ report_of f t l size e = ap (λ (x : Listed). after_lists x f t) (sym e ∙ ap (
 pub record Backed (f : Pattern) (t front after : List ℕ) (rows : ℕ) : Type 0 where
   pub some : 1 ≤ f.count
   pub room : length front ≤ 16000
-  pub equal : length front ≡ length (take (length front - 0) after)
-  pub shown : (high low : ℕ) → table_report rows high low f.count front (take (length front - 0) after) (length front) ≡ lists_report f.count (leftmost f t) (rightmost f t) high low
+  pub equal : length front ≡ length (take (length front) after)
+  pub shown : (high low : ℕ) → table_report rows high low f.count front (take (length front) after) (length front) ≡ lists_report f.count (leftmost f t) (rightmost f t) high low
 
 same_table : {count rows n k : ℕ} (m high low : ℕ) {front flat_front back flat_back : List ℕ} → rows ≡ count → front ≡ flat_front → back ≡ flat_back → n ≡ k
     → table_report rows high low m front back n ≡ table_report count high low m flat_front flat_back k
@@ -64,7 +62,7 @@ back_of {f} {t} {front} l {rows} {after} size best r e =
     let same : length (leftmost f t) * f.count ≡ rows * f.count = ap (λ (k : ℕ). k * f.count) (sym r.count) in
     let fits : ltb (length l) (length (rightmost f t) * f.count) ≡ false = le-ltb (length l) (length (rightmost f t) * f.count) (omega (arith, r.room)) in
     let h : back_written f t l ≡ written f.count (rightmost f t) l = rw r.accepted (rw fits) in
-    let p : take (n - 0) after ≡ flat (rightmost f t) = ap (λ (k : ℕ). take k after) (sub-zero n) ∙ ap (take n) (e ∙ h) ∙ entries_first f.count (rightmost f t) l n (omega arith) in
+    let p : take n after ≡ flat (rightmost f t) = ap (take n) (e ∙ h) ∙ entries_first f.count (rightmost f t) l n (omega arith) in
     record {
       some = ((input-accepted f (length t)).0 r.accepted).pattern.some;
       room = omega (arith, r.room);
@@ -81,11 +79,11 @@ new_size : length new ≡ 16000
 new_size = length-replicate {A = ℕ} 16000 0
 
 -- a refusal is handed on
-pub list_refused : (f : Pattern) (t : List ℕ) {why : Refusal} → front_listed f t (length new) ≡ NotListed why → refusal_report why ≡ search_report f t
+pub list_refused : (f : Pattern) (t : List ℕ) {why : Refusal} → front_listed f t (length new) ≡ Err why → refusal_report why ≡ search_report f t
 list_refused f t e = report_of f t new new_size e
 
 -- where there is none, the tally decides
-pub list-found : (f : Pattern) (t : List ℕ) {rows : ℕ} → front_listed f t (length new) ≡ Rows rows → after_tally (tallied f t) f t ≡ search_report f t
+pub list-found : (f : Pattern) (t : List ℕ) {rows : ℕ} → front_listed f t (length new) ≡ Ok rows → after_tally (tallied f t) f t ≡ search_report f t
 list-found f t e = report_of f t new new_size e
 
 pub backed : {f : Pattern} {t front : List ℕ} {rows : ℕ} {after : List ℕ} → Best f t → Fronted f t rows front → after ≡ back_written f t new → Backed f t front after rows

@@ -1,8 +1,5 @@
 -- Lines value by value, and entry by entry.
-use Prim.Native.Nat.{ℕ, ◌+◌}
-use native.Mathlib.Numerals.{add-one}
-use mathlib.Core.Path.{◌≡◌, refl, sym, ap}
-use mathlib.Core.List.{List, [], ◌∷◌, ◌++◌, append_assoc}
+use Rattle.std.proofs.Common.{ℕ, ◌+◌, ◌≤◌, ◌<◌, ◌≡◌, ◌∙◌, refl, sym, ap, arith, add-one, append_assoc, List, [], ◌∷◌, ◌++◌, length, get_or, drop, drop-cons, length-drop}
 use Rattle.basics.specs.Digits.{digits_in}
 use Rattle.format.specs.Shown.{closed, joined}
 use Rattle.report.specs.Lines.{values, entry_line, entry_lines}
@@ -55,3 +52,24 @@ writes_entry m front back e v w =
     writes_same
     (ap (λ (n : ℕ). closed (entry_lines m front back n)) (sym (add-one e)))
     (writes_lines (entry_lines m front back e) (entry_line m front back e ∷ []) v w)
+
+-- ---- what is left of a list
+
+cons_first : {x y : ℕ} {xs ys : List ℕ} → x ∷ xs ≡ y ∷ ys → x ≡ y
+cons_first e = cc
+
+cons_rest : {x y : ℕ} {xs ys : List ℕ} → x ∷ xs ≡ y ∷ ys → xs ≡ ys
+cons_rest e = cc
+
+module _ (xs : List ℕ) (i : ℕ) {x : ℕ} {rest : List ℕ} (left : drop i xs ≡ x ∷ rest) where
+  inside : i < length xs
+  inside = omega (arith, length-drop i xs, ap length left)
+
+  pub left_within : i + 1 ≤ length xs
+  left_within = omega (arith, inside)
+
+  pub left_first : x ≡ get_or xs i 0
+  left_first = cons_first (sym left ∙ drop-cons xs i 0 inside)
+
+  pub left_after : rest ≡ drop (i + 1) xs
+  left_after = cons_rest (sym left ∙ drop-cons xs i 0 inside) ∙ ap (λ (n : ℕ). drop n xs) (sym (add-one i))

@@ -1,29 +1,17 @@
-ghost use Rattle.std.specs.Prelude.{◌≡◌, ◌&&◌, eqb};
+ghost use Rattle.std.specs.Prelude.{◌≡◌};
 ghost use Rattle.report.specs.Files.{parted};
 
-// Whether both bytes are line feeds.
-fn feeds(before: u8, byte: u8) -> bool
-    ensures { result ≡ (eqb before 10 && eqb byte 10) }
-{
-    if before == b'\n' {
-        return byte == b'\n';
-    }
-    false
-}
-
-// The index of the line feed that parts the two files, or the length where there is none.
+// The index of the line feed that parts the two files, or the length where there is none. No option, since the input is cut at it in either case.
+#[tactic(auto, using(crate::specs::Laws::Files::parting_here, crate::specs::Laws::Files::parting_on, crate::specs::Laws::Files::parting_end))]
 pub(crate) fn parted(input: &[u8]) -> usize
     ensures { result ≡ parted input.now }
 {
     let mut before = b'\n';
-    let mut i = 0;
-    while i < input.len() {
-        let byte = input[i];
-        if feeds(before, byte) {
+    for (i, byte) in input.iter().enumerate() {
+        if before == b'\n' && *byte == b'\n' {
             return i;
         }
-        before = byte;
-        i += 1;
+        before = *byte;
     }
-    i
+    input.len()
 }

@@ -12,11 +12,10 @@ ghost use Rattle.report.specs.Report.{after_tally, search_report, files_report, 
 ghost use Rattle.report.specs.Steps.Fronts.{Fronted};
 
 use crate::files::parted;
-use crate::lines::{put_lists, put_refusal};
-use basics::smaller;
-use counting::{Tallied, tally};
-use format::{TextRead, read_input};
-use matching::{Listed, leftmost, rightmost};
+use crate::lines::{Lists, put_lists, put_refusal};
+use counting::tally;
+use format::read_input;
+use matching::{leftmost, rightmost};
 use pattern::{Pattern, Refusal};
 
 // No report has more bytes than this: a line of names, the line of the count, another line of names, and a line for each of 16,000 entries.
@@ -27,14 +26,18 @@ fn tally_report(pattern: Pattern, text: &[u16], rows: usize, front: &[u16], out:
     requires { Fronted pattern text.now rows front.now }
     ensures { Writes (after_tally (tallied pattern text.now) pattern text.now) out.old 0 out.new result }
 {
-    let total = tally(pattern, text);
-    match total {
-        Tallied::Refused(why) => put_refusal(out, why),
-        Tallied::Total { high, low } => {
+    match tally(pattern, text) {
+        Err(why) => put_refusal(out, why),
+        Ok(total) => {
             let mut back = [0u16; 16000];
-            rightmost(pattern, text, &mut back);
-            let end = front.len();
-            put_lists(out, rows, high, low, pattern.count, front, &back[0..end])
+            // as many rows as the front list, so it is not refused
+            let _ = rightmost(pattern, text, &mut back);
+            let lists = Lists {
+                m: pattern.count,
+                front,
+                back: &back[..front.len()],
+            };
+            put_lists(out, rows, total, lists)
         }
     }
 }
@@ -44,13 +47,9 @@ fn search_report(pattern: Pattern, text: &[u16], out: &mut [u8]) -> usize
     ensures { Writes (search_report pattern text.now) out.old 0 out.new result }
 {
     let mut front = [0u16; 16000];
-    let listed = leftmost(pattern, text, &mut front);
-    match listed {
-        Listed::Refused(why) => put_refusal(out, why),
-        Listed::Rows(rows) => {
-            let end = rows * pattern.count;
-            tally_report(pattern, text, rows, &front[0..end], out)
-        }
+    match leftmost(pattern, text, &mut front) {
+        Err(why) => put_refusal(out, why),
+        Ok(rows) => tally_report(pattern, text, rows, &front[..rows * pattern.count], out),
     }
 }
 
@@ -59,14 +58,9 @@ fn files_report(pattern: &[u8], text: &[u8], out: &mut [u8]) -> usize
     ensures { Writes (files_report pattern.now text.now) out.old 0 out.new result }
 {
     let mut words = [0u16; 20000];
-    let read = read_input(pattern, text, &mut words);
-    let shown = read.text;
-    match shown {
-        TextRead::Refused(why) => put_refusal(out, why),
-        TextRead::Words(n) => {
-            let searched = read.pattern;
-            search_report(searched, &words[0..n], out)
-        }
+    match read_input(pattern, text, &mut words) {
+        Err(why) => put_refusal(out, why),
+        Ok(input) => search_report(input.pattern, &words[..input.words], out),
     }
 }
 
@@ -81,6 +75,6 @@ pub fn report(input: &[u8], out: &mut [u8]) -> usize
         return put_refusal(out, Refusal::FileLength);
     }
     let end = parted(input);
-    let start = smaller(end + 1, n);
-    files_report(&input[0..end], &input[start..], out)
+    let start = (end + 1).min(n);
+    files_report(&input[..end], &input[start..], out)
 }

@@ -1,10 +1,21 @@
+// The lines that are printed. The list and the place go from writer to writer, as the writers of `basics` take and promise them (`Writes`).
 ghost use Rattle.std.specs.Prelude.{◌≡◌, [], ◌∷◌, ◌≤◌, length};
 ghost use Rattle.format.specs.Shown.{closed};
 ghost use Rattle.report.specs.Lines.{values, entry_lines, refusal_report, table_report};
 ghost use Rattle.basics.specs.Writing.{Writes};
+ghost use Rattle.counting.specs.Halves.{high, low};
 
-use basics::{put_bytes, put_value, widen};
+use basics::{put_bytes, put_value};
+use counting::halves;
 use pattern::Refusal;
+
+// The front list and the back list, whose rows have m places.
+#[derive(Clone, Copy)]
+pub(crate) struct Lists<'a> {
+    pub m: usize,
+    pub front: &'a [u16],
+    pub back: &'a [u16],
+}
 
 // Writes a line of two values.
 fn put_pair(out: &mut [u8], at: usize, a: u64, b: u64) -> usize
@@ -14,7 +25,7 @@ fn put_pair(out: &mut [u8], at: usize, a: u64, b: u64) -> usize
     put_value(out, next, b, b'\n')
 }
 
-// Writes a line of the table.
+// Writes a line of the table. Its four numbers one by one: they stand together nowhere else, and a struct of them would be no plainer.
 fn put_entry(out: &mut [u8], at: usize, row: usize, slot: usize, front: u64, back: u64) -> usize
     ensures { Writes (closed (values (row ∷ slot ∷ front ∷ back ∷ []) ∷ [])) out.old at out.new result }
 {
@@ -24,51 +35,43 @@ fn put_entry(out: &mut [u8], at: usize, row: usize, slot: usize, front: u64, bac
 }
 
 // Writes the line of the count and of the two halves of the tally.
-fn put_counts(out: &mut [u8], at: usize, count: usize, high: u64, low: u64) -> usize
-    ensures { Writes (closed (values (count ∷ high ∷ low ∷ []) ∷ [])) out.old at out.new result }
+fn put_counts(out: &mut [u8], at: usize, count: usize, total: u128) -> usize
+    ensures { Writes (closed (values (count ∷ high total ∷ low total ∷ []) ∷ [])) out.old at out.new result }
 {
     let next = put_value(out, at, count as u64, b' ');
+    let (high, low) = halves(total);
     put_pair(out, next, high, low)
 }
 
-// Writes a line for each entry of the two lists, whose rows have m places.
-fn put_table(out: &mut [u8], at: usize, m: usize, front: &[u16], back: &[u16]) -> usize
-    requires { (1 ≤ m) × (length front.now ≡ length back.now) }
-    ensures { Writes (closed (entry_lines m front.now back.now (length front.now))) out.old at out.new result }
+// Writes a line for each entry of the two lists.
+fn put_table(out: &mut [u8], at: usize, lists: Lists) -> usize
+    requires { (1 ≤ lists.m) × (length lists.front.now ≡ length lists.back.now) }
+    ensures { Writes (closed (entry_lines lists.entry.m lists.entry.front.now lists.entry.back.now (length lists.entry.front.now))) out.old at out.new result }
 {
+    let Lists { m, front, back } = lists;
     let mut next = at;
-    let mut e = 0;
-    while e < front.len() {
+    for (e, (front, back)) in front.iter().zip(back).enumerate() {
         next = put_entry(
             out,
             next,
             e / m + 1,
             e % m + 1,
-            widen(front[e]) as u64,
-            widen(back[e]) as u64,
+            u64::from(*front),
+            u64::from(*back),
         );
-        e += 1;
     }
     next
 }
 
 // Writes the count, the halves of the tally and the table.
-pub(crate) fn put_lists(
-    out: &mut [u8],
-    count: usize,
-    high: u64,
-    low: u64,
-    m: usize,
-    front: &[u16],
-    back: &[u16],
-) -> usize
-    requires { (1 ≤ m) × (length front.now ≡ length back.now) }
-    ensures { Writes (table_report count high low m front.now back.now (length front.now)) out.old 0 out.new result }
+pub(crate) fn put_lists(out: &mut [u8], count: usize, total: u128, lists: Lists) -> usize
+    requires { (1 ≤ lists.m) × (length lists.front.now ≡ length lists.back.now) }
+    ensures { Writes (table_report count (high total) (low total) lists.entry.m lists.entry.front.now lists.entry.back.now (length lists.entry.front.now)) out.old 0 out.new result }
 {
     let first = put_bytes(out, 0, b"count high low\n");
-    let second = put_counts(out, first, count, high, low);
+    let second = put_counts(out, first, count, total);
     let third = put_bytes(out, second, b"row slot front back\n");
-    put_table(out, third, m, front, back)
+    put_table(out, third, lists)
 }
 
 // Writes the number and the place of a refusal.
@@ -76,5 +79,5 @@ pub(crate) fn put_refusal(out: &mut [u8], why: Refusal) -> usize
     ensures { Writes (refusal_report why) out.old 0 out.new result }
 {
     let next = put_bytes(out, 0, b"refused place\n");
-    put_pair(out, next, why.number() as u64, why.place() as u64)
+    put_pair(out, next, u64::from(why.number()), why.place() as u64)
 }

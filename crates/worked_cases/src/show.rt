@@ -1,28 +1,19 @@
-// Writing text, numbers, lists and refusals.
-use basics::widen;
+// Writing numbers and lists. (The programs share no crate, so that each reads alone.)
 use pattern::Refusal;
 use std::io;
 
-// Writes a name and a number.
-pub fn show(rt: &impl Print, name: &str, n: u64) -> io::Result<()> {
-    print!(rt; "{name}{n}")
-}
-
 // Writes the entries of a list, each after a space.
 pub fn show_list(rt: &impl Print, list: &[u16]) -> io::Result<()> {
-    for i in 0..list.len() {
-        show(rt, " ", widen(list[i]) as u64)?;
+    for entry in list {
+        print!(rt; " {entry}")?;
     }
     Ok(())
 }
 
-// Writes a refusal's number and place.
-pub fn show_refusal(rt: &impl Print, why: Refusal) -> io::Result<()> {
-    show(rt, " refused ", why.number() as u64)?;
-    show(rt, " ", why.place() as u64)
-}
-
-// Writes text.
-pub fn write(rt: &impl Print, text: &str) -> io::Result<()> {
-    print!(rt; "{text}")
+// Writes a number after its name, or a refusal.
+pub fn show_number(rt: &impl Print, name: &str, answer: Result<usize, Refusal>) -> io::Result<()> {
+    match answer {
+        Ok(n) => print!(rt; " {name} {n}"),
+        Err(why) => print!(rt; " {why}"),
+    }
 }

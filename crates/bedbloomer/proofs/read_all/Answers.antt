@@ -21,6 +21,7 @@ read_more a b c xs ys done k more inside few first second =
 
 pub loop-done-preserved : goal.loop-done-preserved
 loop-done-preserved g c =
+    let more = c.in_ok-more in
     record {
       within = search rules;
       consumed =
@@ -29,12 +30,12 @@ loop-done-preserved g c =
           _
           _
           c.loop-done.list
-          c.read_some-some.new.list
+          c.read.new.buf
           c.loop-done.done
           (length c.loop-done.list - c.loop-done.done)
-          c.read_some-some.result.bytes
+          more.more
           c.loop-done.invariant.within
-          c.read_some-some.ensures.within
+          more.ensures.bound.0
           c.loop-done.invariant.consumed
-          c.read_some-some.ensures.consumes;
+          more.ensures.bytes.0;
     }

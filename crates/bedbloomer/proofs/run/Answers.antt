@@ -4,17 +4,17 @@ use Rattle.std.specs.Io.KnownBytes.{Appends}
 use Rattle.bedbloomer.proofs.Whole.{whole_report}
 use Rattle.bedbloomer.proofs.run.Goals as goal
 
-pub returns-in-Ok-clause-reports : goal.returns-in-Ok-clause-reports
-returns-in-Ok-clause-reports g c =
-    let read = c.read_all-read in
+pub returns-in-Ok-print-clause-reports : goal.returns-in-Ok-print-clause-reports
+returns-in-Ok-print-clause-reports g c =
+    let read = c.in-Ok.ensures in
     whole_report
     _
     _
-    read.new.list
-    read.result.bytes
+    c.read_all.new.list
+    c.in-Ok.n
     (Appends (g.W.Write.contents c.args.output.now) (g.W.Write.contents c.print.new.output))
     (omega arith)
-    read.ensures.within
-    read.ensures.consumes
-    (read.ensures.ends c.if-read.false)
-    c.in-Ok.ensures
+    read.within
+    read.consumes
+    read.ends
+    c.in-Ok-print.ensures

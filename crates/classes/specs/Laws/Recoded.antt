@@ -1,11 +1,11 @@
 -- What the promise of recoding comes to: it leaves one answer and one list; 20 and 21 come exactly where their rows apply; a call that
 -- breaks no limit writes the text by the one reading of its expression.
-use Rattle.std.specs.Prelude.{ℕ, ◌≤◌, ◌<◌, ◌≡◌, refl, ◌↔◌, ◌⊎◌, Bool, true, false, not, List, length, ltb, eqb}
+use Rattle.std.specs.Prelude.{ℕ, ◌≤◌, ◌<◌, ◌≡◌, refl, ◌↔◌, ◌⊎◌, Bool, true, false, not, List, length, ltb, eqb, Result, Ok, Err}
 use Rattle.std.proofs.Common.{arith, sym, ◌∙◌, ap, subst, le-ltb, ltb-false, eq-eqb, ne_eqb, eqb-true}
 use Rattle.std.proofs.lemmas.Bool.{eqb-false, not-false}
 use Rattle.basics.specs.Written.{over}
+use Rattle.pattern.specs.declared.refusal.Refusal.{Refusal}
 use Rattle.pattern.specs.declared.refusal.Refusal.TheVariants.{ZeroWord, TextLength, ListLength, UnequalLengths}
-use Rattle.pattern.specs.declared.refusal.Verdict.TheVariants.{Accepted}
 use Rattle.pattern.specs.Refusals.{number_of}
 use Rattle.pattern.specs.Tests.{refuse, and_then}
 use Rattle.classes.specs.Trees.{Tree}
@@ -13,13 +13,11 @@ use Rattle.classes.specs.Grammar.{Grammar, alternative}
 use Rattle.classes.specs.Judgements.{Judgement, not_expression, too_deep, read_as, Ungrammatical, Judged}
 use Rattle.classes.specs.Recoding.{recoded_words, recoded_text, judgement_verdict, recode_verdict, answered, listed_by, Recodes}
 use Rattle.classes.specs.Laws.Judging.{judged_once, not_refused, judged_20, Deep, judged_21}
-use Rattle.classes.specs.declared.Recoded.{Recoded}
-use Rattle.classes.specs.declared.Recoded.TheVariants.{Words, Refused as NotRecoded}
 
 -- the refusal's number, 0 where nothing is refused
-abbrev pub refusal_number : Recoded → ℕ
-refusal_number (Words n) = 0
-refusal_number (NotRecoded why) = number_of why
+abbrev pub refusal_number : Result ℕ Refusal → ℕ
+refusal_number (Ok n) = 0
+refusal_number (Err why) = number_of why
 
 -- the tests before the expression's accept: 6, 22 and 3
 pub record Fine (text classes : List ℕ) (code : ℕ) : Type 0 where
@@ -29,7 +27,7 @@ pub record Fine (text classes : List ℕ) (code : ℕ) : Type 0 where
 
 -- then the judgement and the list's room decide
 pub after_fine : {text classes : List ℕ} {code : ℕ} (j : Judgement) (out : List ℕ) → Fine text classes code
-    → recode_verdict text classes code j out ≡ and_then (judgement_verdict j) (refuse (ltb (length out) (length text)) (ListLength 0) Accepted)
+    → recode_verdict text classes code j out ≡ and_then (judgement_verdict j) (refuse (ltb (length out) (length text)) (ListLength 0) (Ok tt))
 after_fine {text} {classes} {code} j out f =
     simp (le-ltb 20000 (length text) f.short, eq-eqb (length text) (length classes) f.equal, ne_eqb code 0 f.coded)
 
@@ -51,7 +49,7 @@ is_21 (read_as t) e = absurd (omega arith)
 
 -- 20 and 21 come from the judgement, after the tests before it have passed
 from-judgement : (x y z w : Bool) (j : Judgement) (n k : ℕ) → 20 ≤ k → k ≤ 21
-    → refusal_number (answered (refuse x TextLength (refuse y UnequalLengths (refuse z (ZeroWord 0) (and_then (judgement_verdict j) (refuse w (ListLength 0) Accepted))))) n) ≡ k
+    → refusal_number (answered (refuse x TextLength (refuse y UnequalLengths (refuse z (ZeroWord 0) (and_then (judgement_verdict j) (refuse w (ListLength 0) (Ok tt)))))) n) ≡ k
     → ((x ≡ false) × (y ≡ false) × (z ≡ false)) × (judgement_number j ≡ k)
 from-judgement true y z w j n k h l e = absurd (omega arith)
 from-judgement false true z w j n k h l e = absurd (omega arith)
@@ -64,14 +62,14 @@ from-judgement false false false false (read_as t) n k h l e = absurd (omega ari
 module _ {text classes s : List ℕ} {code : ℕ} {out : List ℕ} where
   -- ---- one answer and one list
 
-  pub one_answer : {r r' : Recoded} {after after' : List ℕ} → Recodes text classes s code out r after → Recodes text classes s code out r' after' → (r ≡ r') × (after ≡ after')
+  pub one_answer : {r r' : Result ℕ Refusal} {after after' : List ℕ} → Recodes text classes s code out r after → Recodes text classes s code out r' after' → (r ≡ r') × (after ≡ after')
   one_answer p q =
       let e = judged_once p.judged q.judged in (
         p.answer ∙ ap (λ (j : Judgement). answered (recode_verdict text classes code j out) (length text)) e ∙ sym q.answer,
         p.content ∙ ap (λ (j : Judgement). listed_by (recode_verdict text classes code j out) out (recoded_text j code text classes)) e ∙ sym q.content,
       )
 
-  module _ {r : Recoded} {after : List ℕ} (p : Recodes text classes s code out r after) where
+  module _ {r : Result ℕ Refusal} {after : List ℕ} (p : Recodes text classes s code out r after) where
     -- ---- where 20 and 21 come
 
     -- 20 and 21 are the judgement's
@@ -88,7 +86,7 @@ module _ {text classes s : List ℕ} {code : ℕ} {out : List ℕ} where
 
     -- once those tests have passed, a judgement that refuses gives its number
     given_by : {j : Judgement} (k : ℕ) → Fine text classes code → Judged s j
-        → ((n : ℕ) → refusal_number (answered (and_then (judgement_verdict j) (refuse (ltb (length out) (length text)) (ListLength 0) Accepted)) n) ≡ k) → refusal_number r ≡ k
+        → ((n : ℕ) → refusal_number (answered (and_then (judgement_verdict j) (refuse (ltb (length out) (length text)) (ListLength 0) (Ok tt))) n) ≡ k) → refusal_number r ≡ k
     given_by {j} k f q h = ap refusal_number p.answer ∙ simp (judged_once p.judged q, after_fine j out f) (h (length text))
 
     -- 20: the tests before it have passed, and the bytes are not of the grammar or too long
@@ -119,8 +117,8 @@ module _ {text classes s : List ℕ} {code : ℕ} {out : List ℕ} where
           (λ e. omega (arith, (judged_by_lem 20 (omega arith) (omega arith) e).1), λ e. omega (arith, (judged_by_lem 21 (omega arith) (omega arith) e).1))
 
       -- a call that breaks no limit answers how many words, and writes the text recoded by the reading
-      pub good_call : Fine text classes code → length text ≤ length out → (r ≡ Words (length text)) × (after ≡ over out (recoded_words t code text classes))
+      pub good_call : Fine text classes code → length text ≤ length out → (r ≡ Ok (length text)) × (after ≡ over out (recoded_words t code text classes))
       good_call f l =
           let j = not_refused g within flat p.judged in
-          let a = after_fine (read_as t) out f ∙ ap (λ (b : Bool). refuse b (ListLength 0) Accepted) (le-ltb (length out) (length text) l) in
+          let a = after_fine (read_as t) out f ∙ ap (λ (b : Bool). refuse b (ListLength 0) (Ok tt)) (le-ltb (length out) (length text) l) in
           (p.answer ∙ simp (j, a), p.content ∙ simp (j, a))

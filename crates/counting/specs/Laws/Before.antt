@@ -1,6 +1,6 @@
--- The promise before the halves, from the one now: a tally that was answered has the high half 0 and the low half that it was, each number
+-- The promise before the halves, from the one now: a tally that was answered has the high half 0 and is the number that it was, each number
 -- of its column likewise, and 9 stood where the high half is not 0.
-use Rattle.std.specs.Prelude.{◌≡◌, ℕ, ◌+◌, ◌-◌, ◌*◌, ◌^◌, ◌<◌, ◌≤◌, Bool, true, false, List, length, drop, ◌≢◌, nat_lt, slice_index, slice_index_or, refl}
+use Rattle.std.specs.Prelude.{◌≡◌, ℕ, ◌+◌, ◌-◌, ◌*◌, ◌^◌, ◌<◌, ◌≤◌, Bool, true, false, List, length, drop, nat_lt, slice_index, slice_index_or, refl, Result, Ok, Err}
 use Rattle.std.proofs.Math.Decide.{dec_lt}
 use Rattle.std.proofs.Common.{arith, ap, sym, ◌∙◌, lt-ltb, le-ltb, ltb-false}
 use Rattle.std.proofs.Math.ListN.{get_or-append}
@@ -9,41 +9,34 @@ use Rattle.basics.specs.Laws.Sums.{sum_at}
 use Rattle.pattern.specs.declared.Pattern.{Pattern}
 use Rattle.pattern.specs.declared.refusal.Refusal.{Refusal}
 use Rattle.pattern.specs.declared.refusal.Refusal.TheVariants.{ListLength, Tally}
-use Rattle.pattern.specs.declared.refusal.Verdict.{Verdict}
-use Rattle.pattern.specs.declared.refusal.Verdict.TheVariants.{Accepted}
-use Rattle.pattern.specs.declared.refusal.Verdict.TheVariants.{Refused as Turned}
-use Rattle.pattern.specs.Tests.{input_verdict}
+use Rattle.pattern.specs.Tests.{Verdict, input_verdict}
 use Rattle.matching.specs.Occurrences.{occurrences}
-use Rattle.counting.specs.declared.starting.Started.TheVariants.{Words}
-use Rattle.counting.specs.declared.starting.Started.TheVariants.{Refused as Unstarted}
-use Rattle.counting.specs.declared.total.Tallied.{Tallied}
-use Rattle.counting.specs.declared.total.Tallied.TheVariants.{Total, Refused}
 use Rattle.counting.specs.Starts.{column}
 use Rattle.counting.specs.Halves.{high, low, halves}
 use Rattle.counting.specs.Answers.{tallied, started_after, started, starts_written}
-use Rattle.counting.specs.Before.{too_many_before, number, refused, tallied_before, narrowed, started_before, starts_written_before}
-use Rattle.counting.specs.Laws.Halves.{high_none, low_all, high_at, low_at}
-use Rattle.counting.specs.Laws.Nine.{never_too_many, started-words, unstarted}
+use Rattle.counting.specs.Before.{too_many_before, tallied_before, narrowed, started_before, starts_written_before}
+use Rattle.counting.specs.Laws.Halves.{whole, high_none, low_all, high_at, low_at}
+use Rattle.counting.specs.Laws.Nine.{never_too_many, started-words, err_not}
 use Rattle.counting.specs.Laws.Starts.{column-length, column-sum, halves-size}
 
 -- ---- the tally
 
-number_is : {a b : ℕ} → number a ≡ number b → a ≡ b
+number_is : {a b : ℕ} → ◌≡◌ {A = Result ℕ Refusal} (Ok a) (Ok b) → a ≡ b
 number_is e = cc
 
-refused_not : {why : Refusal} {n : ℕ} → refused why ≢ number n
-refused_not e = let z : ◌≡◌ {A = ℕ} 0 1 = cc in omega arith
-
--- only the high half 0 is narrowed to a number
-of_number : (a : Tallied) {n : ℕ} → narrowed a ≡ number n → a ≡ Total 0 n
-of_number (Refused why) e = absurd (refused_not e)
-of_number (Total h l) {n} e = go (nat_lt 0 h) refl e
+-- only a number with the high half 0 is narrowed to a number, and that is the same
+of_number : (a : Result ℕ Refusal) {n : ℕ} → narrowed a ≡ Ok n → (a ≡ Ok n) × (high n ≡ 0)
+of_number (Err why) e = absurd (err_not e)
+of_number (Ok m) {n} e = go (nat_lt 0 (high m)) refl e
   where
-    go : (b : Bool) → nat_lt 0 h ≡ b → pick b (refused Tally) (number l) ≡ number n → Total h l ≡ Total 0 n
-    go true q r = absurd (refused_not r)
-    go false q r = let z : h ≡ 0 = omega (arith, ltb-false 0 h q) in rw (z, number_is r)
+    go : (b : Bool) → nat_lt 0 (high m) ≡ b → pick b (Err Tally) (Ok (low m)) ≡ Ok n → (◌≡◌ {A = Result ℕ Refusal} (Ok m) (Ok n)) × (high n ≡ 0)
+    go true q r = absurd (err_not r)
+    go false q r =
+        let z : high m ≡ 0 = omega (arith, ltb-false 0 (high m) q) in
+        let e : m ≡ n = omega (arith, whole m, number_is r) in
+        (ap (λ (k : ℕ). Ok k) e, rw (← e) z)
 
-same_single : (n : ℕ) → pick (too_many_before n) (refused Tally) (number n) ≡ pick (nat_lt 0 (high n)) (refused Tally) (number (low n))
+same_single : (n : ℕ) → pick (too_many_before n) (Err Tally) (Ok n) ≡ pick (nat_lt 0 (high n)) (Err Tally) (Ok (low n))
 same_single n = elim (dec_lt n (2 ^ 64)) [
   | yes a ↦ rw (le-ltb (2 ^ 64 - 1) n (omega arith), le-ltb 0 (high n) (omega arith), low_all n a)
   | no a ↦ rw (lt-ltb (2 ^ 64 - 1) n (omega arith), lt-ltb 0 (high n) (omega arith))
@@ -54,41 +47,38 @@ pub tally_before : (f : Pattern) (t : List ℕ) → tallied_before f t ≡ narro
 tally_before f t = go (input_verdict f (length t)) refl
   where
     go : (v : Verdict) → input_verdict f (length t) ≡ v → tallied_before f t ≡ narrowed (tallied f t)
-    go Accepted e = rw (e, never_too_many f t e) (same_single (length (occurrences f t)))
-    go (Turned why) e = rw e
+    go (Ok tt) e = rw (e, never_too_many f t e) (same_single (length (occurrences f t)))
+    go (Err why) e = rw e
 
--- a tally that was answered: the high half 0, and the low half that it was
-pub answered_before : (f : Pattern) (t : List ℕ) {n : ℕ} → tallied_before f t ≡ number n → tallied f t ≡ Total 0 n
+-- a tally that was answered: the number that it was, and its high half is 0
+pub answered_before : (f : Pattern) (t : List ℕ) {n : ℕ} → tallied_before f t ≡ Ok n → (tallied f t ≡ Ok n) × (high n ≡ 0)
 answered_before f t e = of_number (tallied f t) (sym (tally_before f t) ∙ e)
 
 -- ---- the column
 
-words_is : {a b : ℕ} → Words a ≡ Words b → a ≡ b
-words_is e = cc
-
 -- where it was answered: every test passed
 record Passed (v : Verdict) (words total n : ℕ) : Type 0 where
-  accepted : v ≡ Accepted
+  accepted : v ≡ Ok tt
   small : total < 2 ^ 64
   count : words ≡ n
 
-words_passed : (v : Verdict) (words total : ℕ) (short : Bool) {n : ℕ} → started_after v words short (too_many_before total) ≡ Words n → Passed v words total n
-words_passed (Turned why) words total short e = absurd (unstarted e)
-words_passed Accepted words total short {n} e = go short (too_many_before total) refl e
+words_passed : (v : Verdict) (words total : ℕ) (short : Bool) {n : ℕ} → started_after v words short (too_many_before total) ≡ Ok n → Passed v words total n
+words_passed (Err why) words total short e = absurd (err_not e)
+words_passed (Ok tt) words total short {n} e = go short (too_many_before total) refl e
   where
-    go : (short large : Bool) → too_many_before total ≡ large → pick short (Unstarted (ListLength 0)) (pick large (Unstarted Tally) (Words words)) ≡ Words n → Passed Accepted words total n
-    go true large q r = absurd (unstarted r)
-    go false true q r = absurd (unstarted r)
-    go false false q r = record { accepted = refl; small = omega (arith, ltb-false (2 ^ 64 - 1) total q); count = words_is r }
+    go : (short large : Bool) → too_many_before total ≡ large → pick short (Err (ListLength 0)) (pick large (Err Tally) (Ok words)) ≡ Ok n → Passed (Ok tt) words total n
+    go true large q r = absurd (err_not r)
+    go false true q r = absurd (err_not r)
+    go false false q r = record { accepted = refl; small = omega (arith, ltb-false (2 ^ 64 - 1) total q); count = number_is r }
 
 -- a column that was answered, and a list with room for two numbers for each word
-module _ (f : Pattern) (t old l : List ℕ) {n : ℕ} (e : started_before f t (length old) ≡ Words n) (room : length t * 2 ≤ length l) where
+module _ (f : Pattern) (t old l : List ℕ) {n : ℕ} (e : started_before f t (length old) ≡ Ok n) (room : length t * 2 ≤ length l) where
   passed : Passed (input_verdict f (length t)) (length t) (length (occurrences f t)) n
   passed = words_passed (input_verdict f (length t)) (length t) (length (occurrences f t)) (nat_lt (length old) (length t)) e
 
   -- it is answered with as many words
-  pub starts_before : started f t (length l) ≡ Words n
-  starts_before = started-words f t passed.accepted (length l) room ∙ ap Words passed.count
+  pub starts_before : started f t (length l) ≡ Ok n
+  starts_before = started-words f t passed.accepted (length l) room ∙ ap (λ (k : ℕ). Ok k) passed.count
 
   module _ (i : ℕ) (h : i < length t) where
     small : slice_index_or (column f t) i 0 < 2 ^ 64

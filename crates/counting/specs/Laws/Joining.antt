@@ -1,6 +1,6 @@
 -- Two texts with a sentence end between them: each occurrence lies in one of the two, so the tally of the joined text is the sum of theirs,
 -- and the column is theirs with a 0 between them.
-use Rattle.std.specs.Prelude.{◌≡◌, ℕ, suc, ◌+◌, ◌-◌, ◌<◌, ◌≤◌, List, ◌∷◌, ◌++◌, map, length, nat_eq}
+use Rattle.std.specs.Prelude.{◌≡◌, ℕ, suc, ◌+◌, ◌-◌, ◌<◌, ◌≤◌, List, ◌∷◌, ◌++◌, map, length, nat_eq, Ok}
 use Rattle.std.proofs.Math.Decide.{dec_lt, ℕ_discrete}
 use Rattle.std.proofs.Common.{arith, sym, ◌∙◌, length-append, ext_get_or, get_or-append-add, ne_eqb}
 use Rattle.std.proofs.Math.Path.{ap}
@@ -10,7 +10,6 @@ use Rattle.std.proofs.Math.Seq.{get_or-append_seam}
 use Rattle.basics.specs.Laws.Collections.{every_map, map-every, select_none, select-append, select-map}
 use Rattle.basics.specs.Laws.Choice.{eqb-shifted}
 use Rattle.pattern.specs.declared.Pattern.{Pattern}
-use Rattle.pattern.specs.declared.refusal.Verdict.TheVariants.{Accepted}
 use Rattle.pattern.specs.Tests.{input_verdict}
 use Rattle.pattern.specs.Accepted.{Accepted as AcceptedPattern}
 use Rattle.pattern.specs.Laws.Accepting.{input-accepted}
@@ -20,26 +19,25 @@ use Rattle.matching.specs.Joining.{shifted}
 use Rattle.matching.proofs.Laws.Enumeration.{occurrences-occur}
 use Rattle.matching.proofs.Laws.Joining.{joined-input, joined_texts}
 use Rattle.matching.proofs.Laws.Pieces.{at_shifted}
-use Rattle.counting.specs.declared.total.Tallied.TheVariants.{Total}
 use Rattle.counting.specs.Starts.{starts_at, column}
-use Rattle.counting.specs.Halves.{high, low, halves}
+use Rattle.counting.specs.Halves.{halves}
 use Rattle.counting.specs.Joining.{TalliesAdd}
 use Rattle.counting.specs.Laws.Halves.{halves-append}
 use Rattle.counting.specs.Laws.Starts.{column-length, column_at}
-use Rattle.counting.specs.Laws.Nine.{tallied-halves}
+use Rattle.counting.specs.Laws.Nine.{tallied_number}
 
 -- where the joined text passes the tests, its tally is the sum of the two
-pub tallies_add : (f : Pattern) (t u : List ℕ) → input_verdict f (length (t ++ 0 ∷ u)) ≡ Accepted → TalliesAdd f t u
+pub tallies_add : (f : Pattern) (t u : List ℕ) → input_verdict f (length (t ++ 0 ∷ u)) ≡ Ok tt → TalliesAdd f t u
 tallies_add f t u e =
     let b = joined-input f t u e in
     record {
       first = length (occurrences f t);
       second = length (occurrences f u);
-      of_first = tallied-halves f t b.0;
-      of_second = tallied-halves f u b.1;
+      of_first = tallied_number f t b.0;
+      of_second = tallied_number f u b.1;
       of_joined =
-          tallied-halves f (t ++ 0 ∷ u) e
-          ∙ ap (λ (n : ℕ). Total (high n) (low n)) (joined_texts ((input-accepted f (length (t ++ 0 ∷ u))).0 e).pattern t u).tally;
+          tallied_number f (t ++ 0 ∷ u) e
+          ∙ ap (λ (n : ℕ). Ok n) (joined_texts ((input-accepted f (length (t ++ 0 ∷ u))).0 e).pattern t u).tally;
     }
 
 -- ---- the column

@@ -1,5 +1,5 @@
 -- The table of which slot fits which place: 1 where it does. Slot j has an entry for each place from the index j * 20000 on.
-use Rattle.std.specs.Prelude.{◌≡◌, ℕ, ◌+◌, ◌*◌, ◌<◌, ◌≤◌, Bool, List, length, ◌==◌, slice_index}
+use Rattle.std.specs.Prelude.{◌≡◌, ℕ, ◌+◌, ◌*◌, ◌<◌, ◌≤◌, Bool, List, length, take, drop, ◌==◌, slice_index}
 use Rattle.pattern.specs.declared.Pattern.{Pattern}
 use Rattle.matching.specs.Occurrence.{View}
 
@@ -16,3 +16,7 @@ pub record SlotFitted (fits : ℕ → Bool) (n at : ℕ) (T T' : List ℕ) : Typ
 pub record Fitted (f : Pattern) (v : View) (T : List ℕ) : Type 0 where
   pub size : 320000 ≤ length T
   pub fit : (j : ℕ) → j < f.count → (i : ℕ) → i < v.places → fitted T (j * 20000 + i) ≡ v.fits j (i + 1)
+
+-- n entries from an index on
+unfoldable pub part : List ℕ → ℕ → ℕ → List ℕ
+part T at n = take n (drop at T)

@@ -1,24 +1,30 @@
--- What is given to the functions that write all occurrences: as a `Known` or a `Parted`, with room for the rows in a list of `space` places.
-use Rattle.std.specs.Prelude.{◌≡◌, ℕ, ◌*◌, ◌≤◌, true, List, length}
-use Rattle.pattern.specs.declared.Pattern.{Pattern}
-use Rattle.matching.specs.Occurrences.{occurrences_in}
-use Rattle.matching.specs.Spans.{width}
-use Rattle.counting.specs.Steps.Plans.{Known, known_view, Parted, plan_pattern, plan_rows, unbound}
+-- What the functions that write all occurrences are given, with room for the rows in a list of `space` places.
+use Rattle.std.specs.Prelude.{◌≡◌, ℕ, ◌+◌, ◌*◌, ◌≤◌, List, length}
+use Rattle.counting.specs.declared.tables.Tables.{Tables}
+use Rattle.counting.specs.declared.window.Window.{Window}
+use Rattle.counting.specs.Steps.Plans.{Plan, plan_pattern, plan_view, plan_rows, Within}
+use Rattle.counting.specs.Steps.Tables.{rows_at}
+use Rattle.counting.specs.Steps.Walks.{run, put}
 
--- for any pattern
-pub record PutAll (f : Pattern) (n : ℕ) (T E : List ℕ) (space : ℕ) : Type 0 where
-  pub known : Known f n T E
-  pub room : length (occurrences_in f (known_view known)) * f.count ≤ space
+-- for all of them
+pub record Put (t : Tables) (space : ℕ) : Type 0 where
+  pub plan : Plan t
+  pub room : length (plan_rows plan) * t.slots ≤ space
 
--- where the span limits cannot bind
-pub record PutWhole (m n reach : ℕ) (low high T E : List ℕ) (space : ℕ) : Type 0 where
-  pub parts : Parted m n reach low high T E
-  pub spans : unbound (plan_pattern parts.plan) n ≡ true
-  pub room : length (plan_rows parts.plan) * m ≤ space
+-- the rows that start in a window
+abbrev pub window_rows : {t : Tables} → Plan t → Window → List (List ℕ)
+window_rows g w = run (rows_at (plan_pattern g) (plan_view g) w 0) 0 w.starts
 
--- for any pattern, with its least span and how many places a row of it can span
-pub record PutEach (m n reach least span : ℕ) (low high T E : List ℕ) (space : ℕ) : Type 0 where
-  pub parts : Parted m n reach low high T E
-  pub from : least ≡ parts.plan.least
-  pub wide : span ≡ width (plan_pattern parts.plan)
-  pub room : length (plan_rows parts.plan) * m ≤ space
+-- for those, past the rows done
+pub record PutWindow (t : Tables) (w : Window) (done space : ℕ) : Type 0 where
+  pub plan : Plan t
+  pub within : Within t.places w
+  pub some : 1 ≤ w.starts
+  pub room : ℕ
+  pub fits : done + length (window_rows plan w) ≤ room
+  pub wide : room * t.slots ≤ space
+
+-- what is done: the rows stand past those done
+pub record WindowPut {t : Tables} {w : Window} {done space : ℕ} (g : PutWindow t w done space) (l : List ℕ) (r : ℕ) (l' : List ℕ) : Type 0 where
+  pub number : r ≡ done + length (window_rows g.plan w)
+  pub list : l' ≡ put t.slots done (window_rows g.plan w) l

@@ -22,12 +22,12 @@ pub record Reached (alive : ℕ → Bool) (n base : ℕ) (N N' : List ℕ) : Typ
   pub above : (k : ℕ) → base + n < k → slice_index N' k ≡ slice_index N k
 
 -- the last slot can stand there, at the place `from` or later
-abbrev pub ends : List ℕ → ℕ → ℕ → ℕ → ℕ → Bool
-ends T at first from i = fitted T (at + i) && nat_le from (first + i + 1)
+abbrev pub ends : List ℕ → ℕ → ℕ → ℕ → Bool
+ends T first from i = fitted T i && nat_le from (first + i + 1)
 
 -- a slot can stand there, and the next slot in its gap, by its entries N up to m
-abbrev pub leads : List ℕ → ℕ → ℕ → ℕ → ℕ → ℕ → List ℕ → ℕ → Bool
-leads T at low high m base N i = fitted T (at + i) && nat_le (slice_index N (base + 20001 + min (i + low + 1) m)) (i + high + 1)
+abbrev pub leads : List ℕ → ℕ → ℕ → ℕ → ℕ → List ℕ → ℕ → Bool
+leads T low high m base N i = fitted T i && nat_le (slice_index N (base + 20001 + min (i + low + 1) m)) (i + high + 1)
 
 -- ---- the whole table
 

@@ -1,13 +1,11 @@
 -- The machine of one client: each of the four is answered, and left, as by such a machine of its own.
-use Rattle.std.specs.Prelude.{ℕ, ◌≡◌, Bool, length}
+use Rattle.std.specs.Prelude.{ℕ, ◌≡◌, Bool, length, Ok, Err}
 use Rattle.std.proofs.Math.Path.{refl, subst}
 use Rattle.std.proofs.Common.{sym, ap}
 use Rattle.std.proofs.Math.Bool.{true, false}
-use Rattle.std.proofs.Math.Option.{Option, none, some}
+use Rattle.std.proofs.Math.Option.{Option as Found, none, some}
 use mathlib.Core.List.{List, [], ◌∷◌}
 use borrow.Author.Tests.{eqb-true, eqb-false}
-use Rattle.pattern.specs.declared.refusal.Verdict.{Verdict}
-use Rattle.pattern.specs.declared.refusal.Verdict.TheVariants.{Accepted, Refused}
 use Rattle.basics.specs.Collections.{keep, select}
 use Rattle.matching.specs.Answers.{searched_by}
 use Rattle.cursors.specs.declared.Client.{Client}
@@ -16,23 +14,24 @@ use Rattle.cursors.specs.Machine.{client_of, moved, restarted, client_verdict, n
 use Rattle.cursors.specs.Calls.{Call, next, rewind, Reply, served, turned, step, run}
 use Rattle.cursors.specs.Clients.{KnownClient, caller, owns, own_calls, own_replies}
 use Rattle.cursors.specs.Laws.Storing.{Four, with_same, step_four, other_kept}
+use Rattle.pattern.specs.Tests.{Verdict}
 
 -- ---- the machine of one client
 
 -- what "next" leaves of a client where the tests come to the verdict and the search to a row or none
-abbrev pub client_by : Verdict → Option (List ℕ) → Client → Client
-client_by Accepted (some row) c = moved row c
-client_by Accepted none c = c
-client_by (Refused why) found c = c
+abbrev pub client_by : Verdict → Found (List ℕ) → Client → Client
+client_by (Ok tt) (some row) c = moved row c
+client_by (Ok tt) none c = c
+client_by (Err why) found c = c
 
 -- what it answers
-abbrev pub reply_by : Verdict → Option (List ℕ) → Reply
-reply_by v found = served (searched_by v found).outcome (searched_by v found).places
+abbrev pub reply_by : Verdict → Found (List ℕ) → Reply
+reply_by v found = served (searched_by v found)
 
 -- what "rewind" leaves of it
 abbrev pub restarted_by : Verdict → Client → Client
-restarted_by Accepted c = restarted c
-restarted_by (Refused why) c = c
+restarted_by (Ok tt) c = restarted c
+restarted_by (Err why) c = c
 
 -- what a call of its own leaves of a client
 abbrev pub client_after : Call → Client → Client
@@ -56,18 +55,18 @@ replies_alone (call ∷ calls) c = reply_to call c ∷ replies_alone calls (clie
 
 -- ---- a call to the four
 
-left_client : (v : Verdict) (o : Option (List ℕ)) (s : Cursors) {client : ℕ} → KnownClient client → Four s → client_of (left_by v o s client) client ≡ client_by v o (client_of s client)
-left_client Accepted (some row) s {client} k four = with_same s (moved row (client_of s client)) k four
-left_client Accepted none s k four = refl
-left_client (Refused why) o s k four = refl
+left_client : (v : Verdict) (o : Found (List ℕ)) (s : Cursors) {client : ℕ} → KnownClient client → Four s → client_of (left_by v o s client) client ≡ client_by v o (client_of s client)
+left_client (Ok tt) (some row) s {client} k four = with_same s (moved row (client_of s client)) k four
+left_client (Ok tt) none s k four = refl
+left_client (Err why) o s k four = refl
 
 rewound_client : (v : Verdict) (s : Cursors) {client : ℕ} → KnownClient client → Four s → client_of (rewound_by v s client).cursors client ≡ restarted_by v (client_of s client)
-rewound_client Accepted s {client} k four = with_same s (restarted (client_of s client)) k four
-rewound_client (Refused why) s k four = refl
+rewound_client (Ok tt) s {client} k four = with_same s (restarted (client_of s client)) k four
+rewound_client (Err why) s k four = refl
 
 rewound-verdict : (v : Verdict) (s : Cursors) (client : ℕ) → (rewound_by v s client).verdict ≡ v
-rewound-verdict Accepted s client = refl
-rewound-verdict (Refused why) s client = refl
+rewound-verdict (Ok tt) s client = refl
+rewound-verdict (Err why) s client = refl
 
 -- what it leaves of the client that it names, and what it answers, depend on that client alone
 pub step_client : (call : Call) (s : Cursors) → KnownClient (caller call) → Four s → client_of (step call s).state (caller call) ≡ client_after call (client_of s (caller call))

@@ -1,12 +1,10 @@
 -- A client's number counts the occurrences given to it, and never passes 500.
-use Rattle.std.specs.Prelude.{ℕ, ◌+◌, ◌≤◌, ◌<◌, ◌≡◌, refl, List, [], ◌∷◌, length}
+use Rattle.std.specs.Prelude.{ℕ, ◌+◌, ◌≤◌, ◌<◌, ◌≡◌, refl, List, [], ◌∷◌, length, Ok, Err}
 use Rattle.std.proofs.Common.{arith, ap, ◌∙◌}
-use Rattle.std.proofs.Math.Option.{Option, none, some}
+use Rattle.std.proofs.Math.Option.{Option as Found, none, some}
 use Rattle.std.proofs.lemmas.Bool.{lt-leb}
 use Rattle.pattern.specs.declared.Pattern.{Pattern}
-use Rattle.pattern.specs.declared.refusal.Verdict.{Verdict}
-use Rattle.pattern.specs.declared.refusal.Verdict.TheVariants.{Accepted, Refused}
-use Rattle.pattern.specs.Tests.{and_then, input_verdict}
+use Rattle.pattern.specs.Tests.{Verdict, and_then, input_verdict}
 use Rattle.cursors.specs.declared.Client.{Client}
 use Rattle.cursors.specs.declared.Cursors.{Cursors}
 use Rattle.cursors.specs.Machine.{fresh, client_of, client_verdict, next_verdict, next_row}
@@ -18,16 +16,16 @@ use Rattle.cursors.specs.Laws.Alone.{client_by, reply_by, restarted_by, client_a
 
 -- ---- one client alone
 
-next_number : (m : ℕ) (v : Verdict) (o : Option (List ℕ)) (c : Client) (replies : List Reply)
+next_number : (m : ℕ) (v : Verdict) (o : Found (List ℕ)) (c : Client) (replies : List Reply)
     → (client_by v o c).served + length (rows_given m replies) ≡ c.served + length (rows_given m (reply_by v o ∷ replies))
 unfolding rows_given
-next_number m Accepted (some row) c replies = omega arith
-next_number m Accepted none c replies = refl
-next_number m (Refused why) o c replies = refl
+next_number m (Ok tt) (some row) c replies = omega arith
+next_number m (Ok tt) none c replies = refl
+next_number m (Err why) o c replies = refl
 
 rewind_number : (v : Verdict) (c : Client) → (restarted_by v c).served ≡ c.served
-rewind_number Accepted c = refl
-rewind_number (Refused why) c = refl
+rewind_number (Ok tt) c = refl
+rewind_number (Err why) c = refl
 
 after_number : (m : ℕ) (call : Call) (c : Client) (replies : List Reply)
     → (client_after call c).served + length (rows_given m replies) ≡ c.served + length (rows_given m (reply_to call c ∷ replies))
@@ -40,10 +38,10 @@ unfolding client_alone replies_alone rows_given
 alone_number m [] c = omega arith
 alone_number m (call ∷ calls) c = alone_number m calls (client_after call c) ∙ after_number m call c (replies_alone calls (client_after call c))
 
-next_limit : (v : Verdict) (o : Option (List ℕ)) (c : Client) → (v ≡ Accepted → c.served < 500) → c.served ≤ 500 → (client_by v o c).served ≤ 500
-next_limit Accepted (some row) c h l = let q = h refl in omega arith
-next_limit Accepted none c h l = l
-next_limit (Refused why) o c h l = l
+next_limit : (v : Verdict) (o : Found (List ℕ)) (c : Client) → (v ≡ Ok tt → c.served < 500) → c.served ≤ 500 → (client_by v o c).served ≤ 500
+next_limit (Ok tt) (some row) c h l = let q = h refl in omega arith
+next_limit (Ok tt) none c h l = l
+next_limit (Err why) o c h l = l
 
 after-limit : (call : Call) (c : Client) → c.served ≤ 500 → (client_after call c).served ≤ 500
 after-limit (next client f t) c l = next_limit (next_verdict f (length t) client c.served) (next_row c f t) c (λ e. (admitted e).below) l
@@ -74,9 +72,9 @@ module _ {client : ℕ} (k : KnownClient client) (calls : List Call) where
 
 -- ---- 15 is not given while the client was served fewer than 500
 
-then_accept : (v : Verdict) → and_then v Accepted ≡ v
-then_accept Accepted = refl
-then_accept (Refused why) = refl
+then_accept : (v : Verdict) → and_then v (Ok tt) ≡ v
+then_accept (Ok tt) = refl
+then_accept (Err why) = refl
 
 pub not_yet : (f : Pattern) (n client number : ℕ) → number < 500 → next_verdict f n client number ≡ and_then (input_verdict f n) (client_verdict client)
 unfolding next_verdict

@@ -2,8 +2,7 @@
 use Rattle.std.specs.Prelude.{◌≡◌, refl, List, ◌∷◌}
 use Rattle.std.proofs.Common.{ap}
 use Rattle.cursors.specs.declared.Cursors.{Cursors}
-use Rattle.cursors.specs.declared.Served.{Served}
-use Rattle.cursors.specs.Machine.{fresh}
+use Rattle.cursors.specs.Machine.{fresh, Served}
 use Rattle.cursors.specs.Calls.{Call, Reply, reply_of, rewind_step, step, run, History, ended, nexts, rewinds}
 
 -- replies and last state are those of the machine

@@ -1,16 +1,15 @@
 -- The four clients of a state: a call changes at most the one that it names.
-use Rattle.std.specs.Prelude.{ℕ, ◌-◌, ◌≡◌, refl, List, [], ◌∷◌, length}
+use Rattle.std.specs.Prelude.{ℕ, ◌-◌, ◌≡◌, refl, List, [], ◌∷◌, length, Ok, Err}
 use Rattle.std.proofs.Common.{arith, ◌∙◌, length-set, get_or-set_same, get_or-set_other}
-use Rattle.std.proofs.Math.Option.{Option, none, some}
+use Rattle.std.proofs.Math.Option.{Option as Found, none, some}
 use Rattle.std.proofs.lemmas.List.{get_or-replicate}
-use Rattle.pattern.specs.declared.refusal.Verdict.{Verdict}
-use Rattle.pattern.specs.declared.refusal.Verdict.TheVariants.{Accepted, Refused}
 use Rattle.cursors.specs.declared.Client.{Client}
 use Rattle.cursors.specs.declared.Cursors.{Cursors}
 use Rattle.cursors.specs.Machine.{unserved, fresh, nobody, client_of, with_client, moved, restarted, client_verdict, next_verdict, next_row, left_by, next_served, rewound_by, rewound}
 use Rattle.cursors.specs.Calls.{Call, next, rewind, step, run}
 use Rattle.cursors.specs.Clients.{KnownClient, caller}
 use Rattle.cursors.specs.Laws.Admitting.{known_client, admitted}
+use Rattle.pattern.specs.Tests.{Verdict}
 
 -- as many as the type says
 abbrev pub Four : Cursors → Type 0
@@ -31,14 +30,14 @@ data Changed (s : Cursors) (named : ℕ) : Cursors → Type 0 where
   kept : Changed s named s
   stored : KnownClient named → (after : Client) → Changed s named (with_client s named after)
 
-left_changes : (v : Verdict) (o : Option (List ℕ)) (s : Cursors) (named : ℕ) → (v ≡ Accepted → KnownClient named) → Changed s named (left_by v o s named)
-left_changes Accepted (some row) s named n = stored (n refl) (moved row (client_of s named))
-left_changes Accepted none s named n = kept
-left_changes (Refused why) o s named n = kept
+left_changes : (v : Verdict) (o : Found (List ℕ)) (s : Cursors) (named : ℕ) → (v ≡ Ok tt → KnownClient named) → Changed s named (left_by v o s named)
+left_changes (Ok tt) (some row) s named n = stored (n refl) (moved row (client_of s named))
+left_changes (Ok tt) none s named n = kept
+left_changes (Err why) o s named n = kept
 
-rewound_changes : (v : Verdict) (s : Cursors) (named : ℕ) → (v ≡ Accepted → KnownClient named) → Changed s named (rewound_by v s named).cursors
-rewound_changes Accepted s named n = stored (n refl) (restarted (client_of s named))
-rewound_changes (Refused why) s named n = kept
+rewound_changes : (v : Verdict) (s : Cursors) (named : ℕ) → (v ≡ Ok tt → KnownClient named) → Changed s named (rewound_by v s named).cursors
+rewound_changes (Ok tt) s named n = stored (n refl) (restarted (client_of s named))
+rewound_changes (Err why) s named n = kept
 
 step_changes : (call : Call) (s : Cursors) → Changed s (caller call) (step call s).state
 unfolding next_served rewound

@@ -1,10 +1,8 @@
 -- While all that a client calls is "next" with one pattern and one text, no place is given to it twice at the same slot.
-use Rattle.std.specs.Prelude.{ℕ, zero, suc, ◌≤◌, ◌≡◌, refl, List, [], ◌∷◌, ◌++◌, length, take, replicate}
+use Rattle.std.specs.Prelude.{ℕ, zero, suc, ◌≤◌, ◌≡◌, refl, List, [], ◌∷◌, ◌++◌, length, take, replicate, Ok, Err}
 use Rattle.std.proofs.Common.{arith, ap, subst, ◌∙◌}
-use Rattle.std.proofs.Math.Option.{Option, none, some}
+use Rattle.std.proofs.Math.Option.{Option as Found, none, some}
 use Rattle.pattern.specs.declared.Pattern.{Pattern}
-use Rattle.pattern.specs.declared.refusal.Verdict.{Verdict}
-use Rattle.pattern.specs.declared.refusal.Verdict.TheVariants.{Accepted, Refused}
 use Rattle.pattern.specs.Accepted.{AcceptedInput}
 use Rattle.basics.specs.Collections.{Every, more}
 use Rattle.basics.specs.Laws.Collections.{pairwise_map}
@@ -25,6 +23,7 @@ use Rattle.cursors.specs.Laws.Storing.{Four, fresh_client}
 use Rattle.cursors.specs.Laws.Alone.{client_by, reply_by, restarted_by, client_after, step_client, client_alone, replies_alone, alone}
 use Rattle.cursors.specs.Laws.Giving.{first_sixteen, moved_first}
 use Rattle.cursors.specs.Laws.Running.{machine-from}
+use Rattle.pattern.specs.Tests.{Verdict}
 
 -- rows from marks to marks, each the earliest occurrence past the one before
 abbrev pub Successive : Pattern → List ℕ → List ℕ → List (List ℕ) → List ℕ → Type 0
@@ -36,16 +35,16 @@ OnlyNext client f t calls = Every (λ call. call ≡ next client f t) calls
 
 -- ---- one client alone
 
-successive_by : (f : Pattern) (t : List ℕ) (c : Client) (v : Verdict) (o : Option (List ℕ)) (replies : List Reply) (last : List ℕ) → (v ≡ Accepted → 1 ≤ f.count) → next_row c f t ≡ o
+successive_by : (f : Pattern) (t : List ℕ) (c : Client) (v : Verdict) (o : Found (List ℕ)) (replies : List Reply) (last : List ℕ) → (v ≡ Ok tt → 1 ≤ f.count) → next_row c f t ≡ o
     → Successive f t (first_marks (client_by v o c) f) (rows_given f.count replies) last → Successive f t (first_marks c f) (rows_given f.count (reply_by v o ∷ replies)) last
 unfolding rows_given
-successive_by f t c Accepted (some row) replies last slots e h =
+successive_by f t c (Ok tt) (some row) replies last slots e h =
     let nearest = (earliest_some f (plain f t) (slots refl) (first_marks c f) row).0 e in
     let size = nearest.hit.size in
     let rest = subst (λ (marks : List ℕ). Successive f t marks (rows_given f.count replies) last) (moved_first f row c size) h in
     rw (first_sixteen row size) (further nearest rest)
-successive_by f t c Accepted none replies last slots e h = h
-successive_by f t c (Refused why) o replies last slots e h = h
+successive_by f t c (Ok tt) none replies last slots e h = h
+successive_by f t c (Err why) o replies last slots e h = h
 
 successive_alone : (client : ℕ) (f : Pattern) (t : List ℕ) (calls : List Call) (c : Client) → OnlyNext client f t calls
     → Successive f t (first_marks c f) (rows_given f.count (replies_alone calls c)) (first_marks (client_alone calls c) f)

@@ -1,13 +1,12 @@
 -- Lines: those that are printed are read again, and a file of which no line is left open is its lines, printed. Assumes nothing.
-use Rattle.std.specs.Prelude.{ℕ, zero, suc, ◌+◌, ◌/◌, ◌%◌, ◌<◌, Bool, true, false, List, [], ◌∷◌, ◌++◌, map, ◌≡◌, refl, eqb, ltb, length}
+use Rattle.std.specs.Prelude.{ℕ, zero, suc, ◌+◌, ◌/◌, ◌%◌, ◌<◌, Bool, true, false, List, [], ◌∷◌, ◌++◌, map, ◌≡◌, refl, eqb, ltb, length, Err, Ok}
 use Rattle.std.proofs.Common.{arith, append_assoc, sym, ◌∙◌, ap, subst, eqb-true, ne_eqb}
 use Rattle.std.proofs.lemmas.Bool.{eqb-false}
 use Rattle.basics.specs.Choice.{pick}
 use Rattle.format.specs.Bytes.{ended, lines, on_first}
-use Rattle.format.specs.Layouts.{scan}
+use Rattle.format.specs.Layouts.{Layout, scan}
 use Rattle.basics.specs.Digits.{digits_in}
 use Rattle.format.specs.Shown.{closed, digits}
-use Rattle.format.specs.declared.layout.Layout.TheVariants.{Right, Wrong}
 
 -- no byte is `sep`
 pub data Free (sep : ℕ) : List ℕ → Type 0 where
@@ -92,20 +91,20 @@ pub data AllRight (ok : List ℕ → Bool) : List (List ℕ) → Type 0 where
   no_line : AllRight ok []
   right_line : {l : List ℕ} {ls : List (List ℕ)} → ok l ≡ true → AllRight ok ls → AllRight ok (l ∷ ls)
 
-wrong_right : (n m : ℕ) → Wrong n ≡ Right m → ⊥
-wrong_right n m e = let z : ◌≡◌ {A = ℕ} 0 1 = cc in omega arith
+wrong_right : (n m : ℕ) → ◌≡◌ {A = Layout} (Err n) (Ok m) → ⊥
+wrong_right n m e = cc
 
-pub scan_right : (ls : List (List ℕ)) (ok : List ℕ → Bool) (n : ℕ) → AllRight ok ls → scan ls ok true n ≡ Right (n + length ls)
+pub scan_right : (ls : List (List ℕ)) (ok : List ℕ → Bool) (n : ℕ) → AllRight ok ls → scan ls ok true n ≡ Ok (n + length ls)
 unfolding scan
-scan_right [] ok n no_line = ap Right (omega arith)
-scan_right (l ∷ ls) ok n (right_line h r) = rw h (scan_right ls ok (n + 1) r ∙ ap Right (omega arith))
+scan_right [] ok n no_line = ap Ok (omega arith)
+scan_right (l ∷ ls) ok n (right_line h r) = rw h (scan_right ls ok (n + 1) r ∙ ap Ok (omega arith))
 
-pub scan_all : (ls : List (List ℕ)) (ok : List ℕ → Bool) (c : Bool) (n m : ℕ) → scan ls ok c n ≡ Right m → AllRight ok ls × (c ≡ true)
+pub scan_all : (ls : List (List ℕ)) (ok : List ℕ → Bool) (c : Bool) (n m : ℕ) → scan ls ok c n ≡ Ok m → AllRight ok ls × (c ≡ true)
 unfolding scan
 scan_all [] ok true n m e = (no_line, refl)
 scan_all [] ok false n m e = absurd (wrong_right n m e)
 scan_all (l ∷ ls) ok c n m e = go (ok l) refl e (scan_all ls ok c (n + 1) m)
   where
-    go : (x : Bool) → ok l ≡ x → pick x (scan ls ok c (n + 1)) (Wrong n) ≡ Right m → (scan ls ok c (n + 1) ≡ Right m → AllRight ok ls × (c ≡ true)) → AllRight ok (l ∷ ls) × (c ≡ true)
+    go : (x : Bool) → ok l ≡ x → pick x (scan ls ok c (n + 1)) (Err n) ≡ Ok m → (scan ls ok c (n + 1) ≡ Ok m → AllRight ok ls × (c ≡ true)) → AllRight ok (l ∷ ls) × (c ≡ true)
     go true q k r = (right_line q (r k).0, (r k).1)
     go false q k r = absurd (wrong_right n m k)

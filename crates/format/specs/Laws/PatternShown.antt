@@ -1,17 +1,15 @@
 -- A pattern file holds span limits and slots exactly if it shows them. Assumes nothing.
-use Rattle.std.specs.Prelude.{ℕ, ◌≤◌, ◌<◌, Bool, true, false, List, [], ◌∷◌, map, ◌↔◌, ◌≡◌, refl, eqb, ltb, length, get_or}
+use Rattle.std.specs.Prelude.{ℕ, ◌≤◌, ◌<◌, Bool, true, false, List, [], ◌∷◌, map, ◌↔◌, ◌≡◌, refl, eqb, ltb, length, get_or, Err, Ok}
 use Rattle.std.proofs.Common.{arith, sym, ◌∙◌, ap, subst, eqb-true, ltb-true}
 use Rattle.std.proofs.lemmas.Bool.{false≢true}
 use Rattle.basics.specs.Choice.{pick}
 use Rattle.pattern.specs.declared.refusal.Refusal.{Refusal}
 use Rattle.pattern.specs.declared.refusal.Refusal.TheVariants.{Names, Values}
 use Rattle.format.specs.Bytes.{ended, field, fields, is_number, lines, parts, value}
-use Rattle.format.specs.Layouts.{scan}
+use Rattle.format.specs.Layouts.{Layout, scan}
 use Rattle.format.specs.Names.{column, columns_of, high_name, least_name, low_name, most_name, slot_names, span_names, words_name}
 use Rattle.format.specs.Patterns.{SlotLine, from_names, from_slot_names, from_slots, from_values, pattern_contents, read_slot, refused, shown, slot_values, span_values}
 use Rattle.format.specs.Shown.{Order2, Order3, PatternShows, SmallSlot, SmallSlots, also_slot, closed, digits, file_lines, joined, lm, ml, no_slots, showing, slot_text, three, two}
-use Rattle.format.specs.declared.layout.Layout.{Layout}
-use Rattle.format.specs.declared.layout.Layout.TheVariants.{Right, Wrong}
 use Rattle.format.specs.declared.names.Columns.{Columns}
 use Rattle.format.specs.Laws.Fields.{column_is, joined-parts, number_shown, number_small}
 use Rattle.format.specs.Laws.Words.{words_back}
@@ -178,8 +176,8 @@ module _ (s : List ℕ) (least most : ℕ) (rs : List SlotLine) where
   on_layout : (l₁ l₂ l₃ : List ℕ) (ls : List (List ℕ)) → lines s ≡ l₁ ∷ l₂ ∷ l₃ ∷ ls → span_names l₁ ≡ true → span_values l₂ ≡ true → slot_names l₃ ≡ true
       → (y : Layout) → scan ls (slot_values (columns_of l₃)) (ended s 10) 0 ≡ y
       → from_slots y (columns_of l₃) (value (field l₂ (column (fields l₁) least_name))) (value (field l₂ (column (fields l₁) most_name))) ls ≡ shown least most rs → PatternShows s least most rs
-  on_layout l₁ l₂ l₃ ls el a b d (Wrong n) q e = absurd (refused_shown _ least most rs e)
-  on_layout l₁ l₂ l₃ ls el a b d (Right n) q e =
+  on_layout l₁ l₂ l₃ ls el a b d (Err n) q e = absurd (refused_shown _ least most rs e)
+  on_layout l₁ l₂ l₃ ls el a b d (Ok n) q e =
       let r = scan_all ls (slot_values (columns_of l₃)) (ended s 10) 0 n q in
       all_lines l₁ l₂ l₃ ls el a b d r.0 r.1 (shown-shown e)
 

@@ -1,24 +1,18 @@
 -- What is accepted, in terms of what a file shows. Assumes nothing.
-use Rattle.std.specs.Prelude.{ℕ, ◌≤◌, Bool, true, false, List, ◌↔◌, ◌≡◌, refl, ltb, length}
+use Rattle.std.specs.Prelude.{ℕ, ◌≤◌, Bool, true, false, List, ◌↔◌, ◌≡◌, refl, ltb, length, Ok, Err, Result}
 use Rattle.std.proofs.Common.{arith, sym, ◌∙◌, ap, subst, le-ltb, ltb-false}
-use Rattle.pattern.specs.Laws.Accepting.{pattern-accepted, refused_fine}
+use Rattle.pattern.specs.Laws.Accepting.{pattern-accepted}
 use Rattle.basics.specs.Choice.{pick}
 use Rattle.basics.specs.Written.{over}
-use Rattle.pattern.specs.Tests.{pattern_verdict}
+use Rattle.pattern.specs.Tests.{Verdict, pattern_verdict}
 use Rattle.pattern.specs.declared.Pattern.{Pattern}
 use Rattle.pattern.specs.declared.refusal.Refusal.{Refusal}
 use Rattle.pattern.specs.declared.refusal.Refusal.TheVariants.{TextLength, FileLength, WordListLength}
-use Rattle.pattern.specs.declared.refusal.Verdict.{Verdict}
-use Rattle.pattern.specs.declared.refusal.Verdict.TheVariants.{Refused}
-use Rattle.pattern.specs.declared.refusal.Verdict.TheVariants.{Accepted as Fine}
 use Rattle.pattern.specs.Accepted.{Accepted}
 use Rattle.format.specs.Texts.{TextContents, text_answer, text_contents, text_read, text_written, words}
 use Rattle.format.specs.Texts.{refused as no_words}
-use Rattle.format.specs.Patterns.{PatternContents, SlotLine, judged_by, pattern_contents, pattern_answer, pattern_read, refused, refused_pattern, shown, shown_pattern}
+use Rattle.format.specs.Patterns.{PatternContents, SlotLine, judged_by, pattern_contents, pattern_answer, pattern_read, refused, shown, shown_pattern}
 use Rattle.format.specs.Shown.{PatternShows, TextShows}
-use Rattle.format.specs.declared.patterns.PatternRead.{PatternRead}
-use Rattle.format.specs.declared.texts.TextRead.TheVariants.{Words}
-use Rattle.format.specs.declared.texts.TextRead.TheVariants.{Refused as NoText}
 use Rattle.format.specs.Laws.PatternShown.{pattern-shown}
 use Rattle.format.specs.Laws.TextShown.{text-shown}
 
@@ -35,21 +29,21 @@ pub record ShowsPattern (s : List ℕ) (f : Pattern) : Type 0 where
   pub limits : Accepted f
 
 -- what is answered for an accepted pattern
-abbrev pub accepted : Pattern → PatternRead
-accepted f = record { verdict = Fine; pattern = f }
+abbrev pub accepted : Pattern → Result Pattern Refusal
+accepted f = Ok f
 
-verdict_of : {p q : PatternRead} → p ≡ q → p.verdict ≡ q.verdict
-verdict_of e = ap (λ (r : PatternRead). r.verdict) e
+not_accepted : {why : Refusal} {f : Pattern} → Err why ≡ accepted f → ⊥
+not_accepted e = cc
 
-pattern_in : {p q : PatternRead} → p ≡ q → p.pattern ≡ q.pattern
-pattern_in e = ap (λ (r : PatternRead). r.pattern) e
+same_pattern : {f g : Pattern} → accepted f ≡ accepted g → f ≡ g
+same_pattern e = cc
 
-judged_fine : (v : Verdict) (g f : Pattern) → judged_by v g ≡ accepted f → (v ≡ Fine) × (g ≡ f)
-judged_fine Fine g f e = (refl, pattern_in e)
-judged_fine (Refused why) g f e = absurd (refused_fine (verdict_of e))
+judged_fine : (v : Verdict) (g f : Pattern) → judged_by v g ≡ accepted f → (v ≡ Ok tt) × (g ≡ f)
+judged_fine (Ok tt) g f e = (refl, same_pattern e)
+judged_fine (Err why) g f e = absurd (not_accepted e)
 
 contents-shown : (s : List ℕ) (f : Pattern) → length s ≤ 60000 → (c : PatternContents) → pattern_contents s ≡ c → pattern_answer c ≡ accepted f → ShowsPattern s f
-contents-shown s f h (refused why) e q = absurd (refused_fine (verdict_of q))
+contents-shown s f h (refused why) e q = absurd (not_accepted q)
 contents-shown s f h (shown least most ls) e q =
     let r = judged_fine (pattern_verdict (shown_pattern least most ls)) (shown_pattern least most ls) f q in
     record {
@@ -66,15 +60,15 @@ read_shows : (s : List ℕ) (f : Pattern) → pattern_read s ≡ accepted f → 
 unfolding pattern_read
 read_shows s f e = go (ltb 60000 (length s)) refl e
   where
-    go : (x : Bool) → ltb 60000 (length s) ≡ x → pick x (refused_pattern FileLength) (pattern_answer (pattern_contents s)) ≡ accepted f → ShowsPattern s f
-    go true t q = absurd (refused_fine (verdict_of q))
+    go : (x : Bool) → ltb 60000 (length s) ≡ x → pick x (Err FileLength) (pattern_answer (pattern_contents s)) ≡ accepted f → ShowsPattern s f
+    go true t q = absurd (not_accepted q)
     go false t q = contents-shown s f (ltb-false 60000 (length s) t) (pattern_contents s) refl q
 
 shows_read : (s : List ℕ) (f : Pattern) → ShowsPattern s f → pattern_read s ≡ accepted f
 unfolding pattern_read
 shows_read s f r =
     let g = shown_pattern r.least r.most r.slots in
-    let v : pattern_verdict g ≡ Fine = (pattern-accepted g).1 (subst Accepted r.is r.limits) in
+    let v : pattern_verdict g ≡ (Ok tt) = (pattern-accepted g).1 (subst Accepted r.is r.limits) in
     rw (le-ltb 60000 (length s) r.short, (pattern-shown s r.least r.most r.slots).1 r.shows)
     (ap (λ (w : Verdict). judged_by w g) v ∙ ap accepted (sym r.is))
 
@@ -93,17 +87,17 @@ pub record ShowsText (s : List ℕ) (room n : ℕ) : Type 0 where
   pub few : n ≤ 20000
   pub fits : n ≤ room
 
-pub not_read : {why : Refusal} {n : ℕ} → NoText why ≡ Words n → ⊥
-not_read e = let z : ◌≡◌ {A = ℕ} 0 1 = cc in omega arith
+pub not_read : {why : Refusal} {n : ℕ} → ◌≡◌ {A = Result ℕ Refusal} (Err why) (Ok n) → ⊥
+not_read e = cc
 
-counted : {m n : ℕ} → Words m ≡ Words n → m ≡ n
+counted : {m n : ℕ} → ◌≡◌ {A = Result ℕ Refusal} (Ok m) (Ok n) → m ≡ n
 counted e = cc
 
-words-shown : (s : List ℕ) (room n : ℕ) → length s ≤ 60000 → (c : TextContents) → text_contents s ≡ c → text_answer c room ≡ Words n → ShowsText s room n
+words-shown : (s : List ℕ) (room n : ℕ) → length s ≤ 60000 → (c : TextContents) → text_contents s ≡ c → text_answer c room ≡ Ok n → ShowsText s room n
 words-shown s room n h (no_words why) e q = absurd (not_read q)
 words-shown s room n h (words ws) e q = go (ltb 20000 (length ws)) refl (ltb room (length ws)) refl q
   where
-    go : (x : Bool) → ltb 20000 (length ws) ≡ x → (y : Bool) → ltb room (length ws) ≡ y → pick x (NoText TextLength) (pick y (NoText WordListLength) (Words (length ws))) ≡ Words n → ShowsText s room n
+    go : (x : Bool) → ltb 20000 (length ws) ≡ x → (y : Bool) → ltb room (length ws) ≡ y → pick x (Err TextLength) (pick y (Err WordListLength) (Ok (length ws))) ≡ Ok n → ShowsText s room n
     go true a y b k = absurd (not_read k)
     go false a true b k = absurd (not_read k)
     go false a false b k =
@@ -117,11 +111,11 @@ words-shown s room n h (words ws) e q = go (ltb 20000 (length ws)) refl (ltb roo
           fits = omega (arith, ltb-false room (length ws) b);
         }
 
-read_words : (s : List ℕ) (room n : ℕ) → text_read s room ≡ Words n → ShowsText s room n
+read_words : (s : List ℕ) (room n : ℕ) → text_read s room ≡ Ok n → ShowsText s room n
 unfolding text_read
 read_words s room n e = go (ltb 60000 (length s)) refl e
   where
-    go : (x : Bool) → ltb 60000 (length s) ≡ x → pick x (NoText FileLength) (text_answer (text_contents s) room) ≡ Words n → ShowsText s room n
+    go : (x : Bool) → ltb 60000 (length s) ≡ x → pick x (Err FileLength) (text_answer (text_contents s) room) ≡ Ok n → ShowsText s room n
     go true t q = absurd (not_read q)
     go false t q = words-shown s room n (ltb-false 60000 (length s) t) (text_contents s) refl q
 
@@ -132,12 +126,12 @@ module _ {s : List ℕ} {room n : ℕ} (r : ShowsText s room n) where
   words-fit : ltb room (length r.contents) ≡ false
   words-fit = le-ltb room (length r.contents) (omega (arith, r.count, r.fits))
 
-  words_read : text_read s room ≡ Words n
+  words_read : text_read s room ≡ Ok n
   unfolding text_read
-  words_read = rw (le-ltb 60000 (length s) r.short, (text-shown s r.contents).1 r.shows) (rw (few_words, words-fit) (ap Words r.count))
+  words_read = rw (le-ltb 60000 (length s) r.short, (text-shown s r.contents).1 r.shows) (rw (few_words, words-fit) (ap Ok r.count))
 
 -- a file is read as n words exactly if it shows n words, within the limit and the room
-pub text_read_lem : (s : List ℕ) (room n : ℕ) → (text_read s room ≡ Words n) ↔ ShowsText s room n
+pub text_read_lem : (s : List ℕ) (room n : ℕ) → (text_read s room ≡ Ok n) ↔ ShowsText s room n
 text_read_lem s room n = (read_words s room n, λ r. words_read r)
 
 -- and then these words are written at the list's start

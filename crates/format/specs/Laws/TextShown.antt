@@ -1,16 +1,14 @@
 -- A text file holds words exactly if it shows them. Assumes nothing.
-use Rattle.std.specs.Prelude.{ℕ, Bool, true, false, List, [], ◌∷◌, map, ◌↔◌, ◌≡◌, refl}
+use Rattle.std.specs.Prelude.{ℕ, Bool, true, false, List, [], ◌∷◌, map, ◌↔◌, ◌≡◌, refl, Err, Ok}
 use Rattle.std.proofs.Common.{arith, sym, ◌∙◌, ap, subst, le-leb, leb-true}
 use Rattle.basics.specs.Choice.{pick}
 use Rattle.pattern.specs.declared.refusal.Refusal.{Refusal}
 use Rattle.pattern.specs.declared.refusal.Refusal.TheVariants.{Names}
 use Rattle.format.specs.Bytes.{decimal, ended, is_number, lines, same}
-use Rattle.format.specs.Layouts.{scan}
+use Rattle.format.specs.Layouts.{Layout, scan}
 use Rattle.format.specs.Names.{word_name}
 use Rattle.format.specs.Texts.{after_name, of_lines, refused, text_contents, words}
 use Rattle.format.specs.Shown.{Small, TextShows, also, closed, digits, empty, headed, none}
-use Rattle.format.specs.declared.layout.Layout.{Layout}
-use Rattle.format.specs.declared.layout.Layout.TheVariants.{Right, Wrong}
 use Rattle.format.specs.Laws.Fields.{same_eq}
 use Rattle.format.specs.Laws.Lines.{AllRight, all_digits, closed_read, ended-closed, lines-closed, no_line, right_line, scan_all, scan_right}
 use Rattle.format.specs.Laws.Numbers.{decimal-digits, digits_decimal}
@@ -57,8 +55,8 @@ module _ (s ws : List ℕ) (l : List ℕ) (ls : List (List ℕ)) (el : lines s �
       subst (λ (k : List ℕ). TextShows k ws) shape (headed ws (subst Small w (numbers_small r)))
 
   with_layout : l ≡ word_name → (y : Layout) → scan ls is_number (ended s 10) 0 ≡ y → after_name y ls ≡ words ws → TextShows s ws
-  with_layout n (Wrong k) q e = absurd (refused_words _ ws e)
-  with_layout n (Right k) q e = let r = scan_all ls is_number (ended s 10) 0 k q in with_lines n r.0 r.1 (words-words e)
+  with_layout n (Err k) q e = absurd (refused_words _ ws e)
+  with_layout n (Ok k) q e = let r = scan_all ls is_number (ended s 10) 0 k q in with_lines n r.0 r.1 (words-words e)
 
   with_name : (x : Bool) → same l word_name ≡ x → pick x (after_name (scan ls is_number (ended s 10) 0) ls) (refused (Names 1)) ≡ words ws → TextShows s ws
   with_name true q e = with_layout (same_eq l word_name q) (scan ls is_number (ended s 10) 0) refl e

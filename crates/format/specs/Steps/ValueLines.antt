@@ -1,10 +1,8 @@
--- The lines of values that stand in some bytes, as the readers look at them: their layout, and how many it tells.
+-- The lines of values that stand in some bytes, as the readers look at them: their layout.
 use Rattle.std.specs.Prelude.{ℕ, List}
 use Rattle.format.specs.Bytes.{lines, ended, is_number}
-use Rattle.format.specs.Layouts.{scan}
+use Rattle.format.specs.Layouts.{Layout, scan}
 use Rattle.format.specs.Patterns.{slot_values}
-use Rattle.format.specs.declared.layout.Layout.{Layout}
-use Rattle.format.specs.declared.layout.Layout.TheVariants.{Right, Wrong}
 use Rattle.format.specs.declared.names.Columns.{Columns}
 
 -- the lines of words
@@ -14,8 +12,3 @@ word_lines s = scan (lines s) is_number (ended s 10) 0
 -- the lines of the slots
 unfoldable pub slot_lines : Columns → List ℕ → Layout
 slot_lines c s = scan (lines s) (slot_values c) (ended s 10) 0
-
--- how many lines a layout tells
-abbrev pub told : Layout → ℕ
-told (Right n) = n
-told (Wrong n) = n

@@ -1,11 +1,10 @@
 -- The text for the conditions of an occurrence comes to what is stated: each condition of each row is computed.
-use Rattle.std.specs.Prelude.{ℕ, ◌≡◌, refl, Bool, List, [], ◌∷◌}
+use Rattle.std.specs.Prelude.{ℕ, ◌≡◌, refl, Bool, List, [], ◌∷◌, Ok}
 use Rattle.std.proofs.Common.{lit≤}
 use Rattle.basics.specs.Choice.{only}
 use Rattle.basics.specs.Collections.{keep, select}
 use Rattle.basics.specs.Sums.{gather}
 use Rattle.pattern.specs.declared.Pattern.{Pattern}
-use Rattle.pattern.specs.declared.refusal.Verdict.TheVariants.{Accepted}
 use Rattle.pattern.specs.Patterns.{member, takes}
 use Rattle.pattern.specs.Words.{rises}
 use Rattle.pattern.specs.Tests.{slot_verdict, slots_verdict, span_verdict, limits_verdict, pattern_verdict, input_verdict}
@@ -31,7 +30,7 @@ results-conditions : Results pattern-conditions text-conditions ((1 ∷ 4 ∷ []
 unfolding pattern-conditions text-conditions pattern_of one_word input_verdict pattern_verdict limits_verdict slots_verdict slot_verdict span_verdict rises member follow onward earliest_of latest_of extreme nearest select keep before each meet join
 results-conditions = results hits-conditions refl refl refl refl refl
 
-conditions : {f : Pattern} {t r : List ℕ} {w g s u : Bool} → row_verdict f t r ≡ Accepted → word f t r ≡ w → gap f r ≡ g → span f r ≡ s → sentence f t r ≡ u → Conditions f t r w g s u
+conditions : {f : Pattern} {t r : List ℕ} {w g s u : Bool} → row_verdict f t r ≡ Ok tt → word f t r ≡ w → gap f r ≡ g → span f r ≡ s → sentence f t r ≡ u → Conditions f t r w g s u
 conditions a w g s u = record { accepted = a; word_is = w; gap_is = g; span_is = s; sentence_is = u }
 
 pub condition_texts : ConditionTexts

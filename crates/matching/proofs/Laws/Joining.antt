@@ -1,6 +1,6 @@
 -- Two texts with a sentence end between them: an occurrence keeps to one sentence, so it lies in one of the two. So the occurrences and
 -- the front list are those of the first text, then those of the second, and the numbers add up.
-use Rattle.std.specs.Prelude.{ℕ, zero, suc, ◌+◌, ◌-◌, ◌≤◌, ◌<◌, ◌≡◌, ◌↔◌, true, length, eqb}
+use Rattle.std.specs.Prelude.{ℕ, zero, suc, ◌+◌, ◌-◌, ◌≤◌, ◌<◌, ◌≡◌, ◌↔◌, true, length, eqb, Ok}
 use Rattle.std.proofs.Math.Decide.{dec_lt}
 use Rattle.std.proofs.Common.{arith, sym, ap, subst, ◌∙◌, true≢false, length-append, get_or-append-add}
 use mathlib.Core.List.Memᴰ
@@ -11,13 +11,10 @@ use Rattle.std.proofs.Math.Seq.{get_or-append_seam}
 use Rattle.basics.specs.Collections.{Every, Pairwise}
 use Rattle.basics.specs.Laws.Collections.{every_map, every-mem, every_append, pairwise_append, map-every, map_pairwise, map_at}
 use Rattle.pattern.specs.declared.Pattern.{Pattern}
-use Rattle.pattern.specs.declared.refusal.Verdict.{Verdict}
-use Rattle.pattern.specs.declared.refusal.Verdict.TheVariants.{Accepted as Fine}
 use Rattle.pattern.specs.Patterns.{takes, slot_at}
-use Rattle.pattern.specs.Tests.{input_verdict}
+use Rattle.pattern.specs.Tests.{Verdict, input_verdict}
 use Rattle.pattern.specs.Accepted.{Accepted}
 use Rattle.pattern.specs.Laws.Accepting.{input-accepted}
-use Rattle.matching.specs.declared.rows.Listed.TheVariants.{Rows}
 use Rattle.matching.specs.Occurrence.{View, plain, word_at, OccursIn, at}
 use Rattle.matching.specs.Occurrences.{Lex, occurrences_in, occurrences}
 use Rattle.matching.specs.Rows.{level, Before, NotAfter}
@@ -231,18 +228,18 @@ module _ {f : Pattern} (ok : Accepted f) (t u : List ℕ) where
 -- ---- the calls
 
 -- where the joined text passes the tests, so do the two
-pub joined-input : (f : Pattern) (t u : List ℕ) → input_verdict f (length (t ++ 0 ∷ u)) ≡ Fine → (input_verdict f (length t) ≡ Fine) × (input_verdict f (length u) ≡ Fine)
+pub joined-input : (f : Pattern) (t u : List ℕ) → input_verdict f (length (t ++ 0 ∷ u)) ≡ Ok tt → (input_verdict f (length t) ≡ Ok tt) × (input_verdict f (length u) ≡ Ok tt)
 joined-input f t u e =
     let a = (input-accepted f (length (t ++ 0 ∷ u))).0 e in (
       (input-accepted f (length t)).1 (record { pattern = a.pattern; short = omega (arith, a.short, length-joined t u) }),
       (input-accepted f (length u)).1 (record { pattern = a.pattern; short = omega (arith, a.short, length-joined t u) }),
     )
 
-counted-rows : {o : Verdict} → o ≡ Fine → (R : List (List ℕ)) → counted o R ≡ Rows (length R)
+counted-rows : {o : Verdict} → o ≡ Ok tt → (R : List (List ℕ)) → counted o R ≡ Ok (length R)
 counted-rows e R = ap (λ (o : Verdict). counted o R) e
 
 -- where the joined text passes the tests, its support is the sum of the two
-pub supports_add : (f : Pattern) (t u : List ℕ) → input_verdict f (length (t ++ 0 ∷ u)) ≡ Fine → SupportsAdd f t u
+pub supports_add : (f : Pattern) (t u : List ℕ) → input_verdict f (length (t ++ 0 ∷ u)) ≡ Ok tt → SupportsAdd f t u
 supports_add f t u e =
     let b = joined-input f t u e in
     record {
@@ -250,5 +247,5 @@ supports_add f t u e =
       second = length (leftmost f u);
       of_first = counted-rows b.0 (leftmost f t);
       of_second = counted-rows b.1 (leftmost f u);
-      of_joined = counted-rows e (leftmost f (t ++ 0 ∷ u)) ∙ ap Rows (joined_texts ((input-accepted f (length (t ++ 0 ∷ u))).0 e).pattern t u).support;
+      of_joined = counted-rows e (leftmost f (t ++ 0 ∷ u)) ∙ ap Ok (joined_texts ((input-accepted f (length (t ++ 0 ∷ u))).0 e).pattern t u).support;
     }

@@ -4,8 +4,7 @@ use Rattle.std.specs.Prelude.{ℕ, ◌+◌, ◌-◌, ◌<◌, ◌≡◌, refl, L
 use Rattle.std.proofs.Common.{arith}
 use Rattle.std.proofs.Math.Path.{fun_ext}
 use Rattle.pattern.specs.declared.Pattern.{Pattern}
-use Rattle.pattern.specs.declared.refusal.Verdict.{Verdict}
-use Rattle.pattern.specs.Tests.{input_verdict}
+use Rattle.pattern.specs.Tests.{Verdict, input_verdict}
 use Rattle.pattern.specs.Stated.{SameStated}
 use Rattle.pattern.specs.Agree.{Agree}
 use Rattle.pattern.specs.Laws.Stated.{input_same}

@@ -1,11 +1,10 @@
 -- The nine texts come to what document 01 says: all occurrences are enumerated depth first, and the rest is computed from them.
-use Rattle.std.specs.Prelude.{ℕ, ◌≤◌, ◌≡◌, refl}
+use Rattle.std.specs.Prelude.{ℕ, ◌≤◌, ◌≡◌, refl, Ok}
 use Rattle.std.proofs.Common.{arith, sym, ◌∙◌, true≢false, lit≤}
 use Rattle.std.proofs.Math.Path.{ap}
 use mathlib.Core.List.{List, [], ◌∷◌, reverse}
 use Rattle.std.proofs.Math.ListN.{length}
 use Rattle.pattern.specs.declared.Pattern.{Pattern}
-use Rattle.pattern.specs.declared.refusal.Verdict.TheVariants.{Accepted as Fine}
 use Rattle.pattern.specs.Patterns.{member, takes}
 use Rattle.pattern.specs.Words.{rises}
 use Rattle.pattern.specs.Tests.{slot_verdict, slots_verdict, span_verdict, limits_verdict, pattern_verdict, input_verdict}
@@ -32,7 +31,7 @@ use Rattle.matching.proofs.Laws.Largest.{largest}
 -- the lists from the occurrences that were found
 module _ {f : Pattern} {t : List ℕ} {hits : List (List ℕ)} (found : occurrences f t ≡ hits) where
   pub results : {front back : List (List ℕ)} {count tally : ℕ}
-      → input_verdict f (length t) ≡ Fine
+      → input_verdict f (length t) ≡ Ok tt
       → follow (λ marks. earliest_of f.count hits marks) (length t) (level f.count 0) ≡ front
       → reverse (follow (λ marks. latest_of f.count hits marks) (length t) (level f.count 65535)) ≡ back
       → length front ≡ count → length hits ≡ tally → Results f t hits front back count tally

@@ -2,8 +2,9 @@
 use Rattle.std.specs.Prelude.{ℕ, ◌*◌, ◌≤◌, Bool, true, false, List, map, reverse, ◌≡◌, length}
 use Rattle.pattern.specs.declared.Pattern.{Pattern}
 use Rattle.matching.specs.Lists.{leftmost, leftmost_in, rightmost}
-use Rattle.matching.specs.Steps.Settling.{Ready}
-use Rattle.matching.specs.Steps.Turning.{viewed, flip, Turned}
+use Rattle.matching.specs.Steps.Sides.{sight}
+use Rattle.matching.specs.declared.side.Side.{Side}
+use Rattle.matching.specs.Steps.Turning.{flip, Turned}
 
 -- the pattern g is f as it is searched: turned round where mirrored
 pub record Faces (b : Bool) (f g : Pattern) : Type 0 where
@@ -11,10 +12,9 @@ pub record Faces (b : Bool) (f g : Pattern) : Type 0 where
   pub back : b ≡ true → Turned f g
   pub count : g.count ≡ f.count
 
--- the pattern g can be searched for in the text t, and the list l has room for every row that is found
-pub record Room (g : Pattern) (mirrored : Bool) (t l : List ℕ) : Type 0 where
-  pub ready : Ready g (length t)
-  pub rows : length (leftmost_in g (viewed mirrored g t)) * g.count ≤ length l
+-- the list l has room for every row that is found by the side
+abbrev pub Room : Side → List ℕ → Type 0
+Room s l = length (leftmost_in s.pattern.now (sight s)) * s.pattern.now.count ≤ length l
 
 -- the rows as they are stored, of those that were found in a text of n words
 abbrev pub shown_rows : Bool → ℕ → List (List ℕ) → List (List ℕ)

@@ -1,11 +1,7 @@
 -- What the steps of a search come to: a row that is only ever raised, and never past an occurrence, until it is one itself.
-use Rattle.std.specs.Prelude.{ℕ, ◌+◌, ◌-◌, ◌≤◌, ◌<◌, List, [], ◌∷◌, true, false, ◌≡◌, length, take, replicate}
-use Rattle.basics.specs.Choice.{pick}
+use Rattle.std.specs.Prelude.{ℕ, ◌+◌, ◌-◌, ◌≤◌, ◌<◌, Bool, List, [], ◌∷◌, true, false, ◌≡◌, length, take, Option, Some, None}
 use Rattle.pattern.specs.declared.Pattern.{Pattern}
 use Rattle.pattern.specs.Patterns.{slot_at}
-use Rattle.matching.specs.declared.search.Answer.{Answer}
-use Rattle.matching.specs.declared.searches.Search.{Search}
-use Rattle.matching.specs.declared.searches.Outcome.TheVariants.{Found, Absent}
 use Rattle.matching.specs.Occurrence.{View, OccursIn, at}
 use Rattle.matching.specs.Rows.{Before, NotAfter}
 use Rattle.matching.specs.Searches.{EarliestIn, LatestIn}
@@ -71,6 +67,16 @@ pub record Stable (f : Pattern) (v : View) (p : List ℕ) (j : ℕ) : Type 0 whe
   pub inside : at p j ≤ v.places
   pub fit : v.fits j (at p j) ≡ true
 
+-- whether there is an occurrence, and then its places, 0 past the pattern's slots
+pub record Answer : Type 0 where
+  pub found : Bool
+  pub places : List ℕ
+
+-- an answer of a search that gives the places where there is one
+abbrev pub answer_of : Option (List ℕ) → Answer
+answer_of (Some places) = record { found = true; places = places }
+answer_of None = record { found = false; places = [] }
+
 -- the earliest occurrence at or after the row p
 pub record Settled (f : Pattern) (v : View) (p : List ℕ) (a : Answer) : Type 0 where
   pub occurs : a.found ≡ true → OccursIn f v (take f.count a.places)
@@ -115,7 +121,3 @@ AnsweredBack f v marks = Reported f.count (LatestIn f v marks) (NoneBefore f v m
 pub record Copied (a b : List ℕ) : Type 0 where
   pub size : length b ≡ 16
   pub same : (j : ℕ) → at b j ≡ at a j
-
--- an answer as the public searches give it: sixteen places, all 0 where there is none
-abbrev pub shown_answer : Answer → Search
-shown_answer a = pick a.found (record { outcome = Found; places = a.places }) (record { outcome = Absent; places = replicate 16 0 })

@@ -1,10 +1,9 @@
 -- Merging by examples: what is given, and the refusals 17, 18 and 19 in their order. They compute. Assumes nothing.
-use Rattle.std.specs.Prelude.{ℕ, ◌≡◌, refl, true, false, List, [], ◌∷◌, length}
+use Rattle.std.specs.Prelude.{ℕ, ◌≡◌, refl, true, false, List, [], ◌∷◌, length, Ok, Err}
 use Rattle.basics.specs.Collections.{keep, select}
 use Rattle.pattern.specs.declared.slot.Slot.{Slot}
 use Rattle.pattern.specs.declared.Pattern.{Pattern}
 use Rattle.pattern.specs.declared.refusal.Refusal.TheVariants.{Gap, SlotsDiffer, NothingShared, TooManyWords}
-use Rattle.pattern.specs.declared.refusal.Verdict.TheVariants.{Accepted, Refused}
 use Rattle.pattern.specs.Patterns.{member, slot_of, first_slots}
 use Rattle.pattern.specs.Words.{rises, inserted, sorted}
 use Rattle.pattern.specs.Tests.{slot_verdict, slots_verdict, span_verdict, limits_verdict, pattern_verdict}
@@ -29,7 +28,7 @@ words = pattern (only 0 0 (1 ∷ 2 ∷ []) ∷ only 0 5 (8 ∷ 9 ∷ []) ∷ but
 abbrev gaps : Pattern
 gaps = pattern (only 0 0 (2 ∷ 3 ∷ []) ∷ but 1 3 (8 ∷ []) ∷ but 2 20 (5 ∷ 6 ∷ []) ∷ []) 6 12
 
-both : merged words gaps ≡ record { verdict = Accepted; pattern = pattern (only 0 0 (2 ∷ []) ∷ only 1 3 (9 ∷ []) ∷ but 2 9 (4 ∷ 5 ∷ 6 ∷ []) ∷ []) 6 12 }
+both : merged words gaps ≡ Ok (pattern (only 0 0 (2 ∷ []) ∷ only 1 3 (9 ∷ []) ∷ but 2 9 (4 ∷ 5 ∷ 6 ∷ []) ∷ []) 6 12)
 unfolding merged merge_verdict pattern_verdict limits_verdict slots_verdict slot_verdict span_verdict rises member result_verdict merged_slots remains kept select keep sorted inserted
 both = refl
 
@@ -44,11 +43,11 @@ to_eight = but 0 0 (3 ∷ 4 ∷ 5 ∷ 6 ∷ 7 ∷ 8 ∷ [])
 abbrev to_nine : Slot
 to_nine = but 0 0 (4 ∷ 5 ∷ 6 ∷ 7 ∷ 8 ∷ 9 ∷ [])
 
-in_order : (merge_verdict (pattern (six ∷ []) 1 9) (pattern (to_eight ∷ []) 1 9) ≡ Accepted)
-    × (merge_verdict (pattern (six ∷ []) 1 9) (pattern (to_nine ∷ []) 1 9) ≡ Refused TooManyWords)
-    × (merge_verdict (pattern (six ∷ but 0 4 [] ∷ []) 1 9) (pattern (to_nine ∷ but 4 9 [] ∷ []) 1 9) ≡ Refused TooManyWords)
-    × (merge_verdict (pattern (six ∷ but 0 4 [] ∷ []) 1 9) (pattern (to_nine ∷ but 5 9 [] ∷ []) 1 9) ≡ Refused NothingShared)
-    × (merge_verdict (pattern (six ∷ []) 1 9) (pattern (to_nine ∷ but 5 9 [] ∷ []) 10 19) ≡ Refused SlotsDiffer)
-    × (merge_verdict (pattern (six ∷ []) 1 9) (pattern (to_nine ∷ but 9 5 [] ∷ []) 10 19) ≡ Refused (Gap 2))
+in_order : (merge_verdict (pattern (six ∷ []) 1 9) (pattern (to_eight ∷ []) 1 9) ≡ Ok tt)
+    × (merge_verdict (pattern (six ∷ []) 1 9) (pattern (to_nine ∷ []) 1 9) ≡ Err TooManyWords)
+    × (merge_verdict (pattern (six ∷ but 0 4 [] ∷ []) 1 9) (pattern (to_nine ∷ but 4 9 [] ∷ []) 1 9) ≡ Err TooManyWords)
+    × (merge_verdict (pattern (six ∷ but 0 4 [] ∷ []) 1 9) (pattern (to_nine ∷ but 5 9 [] ∷ []) 1 9) ≡ Err NothingShared)
+    × (merge_verdict (pattern (six ∷ []) 1 9) (pattern (to_nine ∷ but 5 9 [] ∷ []) 10 19) ≡ Err SlotsDiffer)
+    × (merge_verdict (pattern (six ∷ []) 1 9) (pattern (to_nine ∷ but 9 5 [] ∷ []) 10 19) ≡ Err (Gap 2))
 unfolding merge_verdict pattern_verdict limits_verdict slots_verdict slot_verdict span_verdict rises member result_verdict merged_slots remains kept select keep sorted inserted
 in_order = (refl, refl, refl, refl, refl, refl)

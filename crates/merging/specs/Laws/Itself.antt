@@ -1,5 +1,5 @@
 -- Merging an accepted pattern with itself is not refused and gives one that agrees with it: of each slot's words all are in both, and no others are.
-use Rattle.std.specs.Prelude.{ℕ, ◌≤◌, ◌<◌, ◌≡◌, refl, ◌⊎◌, Bool, true, false, length}
+use Rattle.std.specs.Prelude.{ℕ, ◌≤◌, ◌<◌, ◌≡◌, refl, ◌⊎◌, Bool, true, false, length, Ok}
 use Rattle.std.proofs.Common.{arith, sym, ◌∙◌, ap, inl, inr}
 use Rattle.std.specs.Bool.{beq}
 use Rattle.std.proofs.Math.Bool.{and_self}
@@ -8,7 +8,6 @@ use mathlib.Core.List.{List, ◌++◌, Memᴰ}
 use Rattle.basics.specs.Laws.Collections.{every-listed, select_all}
 use Rattle.pattern.specs.declared.slot.Slot.{Slot}
 use Rattle.pattern.specs.declared.Pattern.{Pattern}
-use Rattle.pattern.specs.declared.refusal.Verdict.TheVariants.{Accepted as Fine}
 use Rattle.pattern.specs.Patterns.{member, stated, slot_at}
 use Rattle.pattern.specs.Words.{Rising}
 use Rattle.pattern.specs.Agree.{AgreeSlot, Agree}
@@ -70,7 +69,7 @@ module _ {f : Pattern} (F : Accepted f) (T : Typed f) where
     fits = record { slot = λ j h. rw (here j h) (self-few (F.slot j h) (typed j h) (F.rising j h)) };
   }
 
-  pub self-accepted : merge_verdict f f ≡ Fine
+  pub self-accepted : merge_verdict f f ≡ Ok tt
   self-accepted = (merge_passed f f).1 self_passed
 
   pub self_agree : Agree (merged_pattern f f) f

@@ -1,6 +1,6 @@
 -- Two accepted patterns with equally many slots are merged, or refused with 18 or 19, exactly as `Judged` says; with unequally many they are
 -- refused with 17.
-use Rattle.std.specs.Prelude.{ℕ, zero, suc, ◌+◌, ◌≤◌, ◌<◌, ◌≡◌, refl, ◌↔◌, ◌⊎◌, Bool, true, false, ltb}
+use Rattle.std.specs.Prelude.{ℕ, zero, suc, ◌+◌, ◌≤◌, ◌<◌, ◌≡◌, refl, ◌↔◌, ◌⊎◌, Bool, true, false, ltb, Ok, Err}
 use Rattle.std.proofs.Common.{arith, sym, subst, inl, inr}
 use Rattle.std.proofs.Math.Decide.{ℕ_discrete}
 use Rattle.std.proofs.Math.Bool.{not}
@@ -9,11 +9,8 @@ use Rattle.pattern.specs.declared.slot.Slot.{Slot}
 use Rattle.pattern.specs.declared.Pattern.{Pattern}
 use Rattle.pattern.specs.declared.refusal.Refusal.{Refusal}
 use Rattle.pattern.specs.declared.refusal.Refusal.TheVariants.{SlotsDiffer, NothingShared, TooManyWords}
-use Rattle.pattern.specs.declared.refusal.Verdict.{Verdict}
-use Rattle.pattern.specs.declared.refusal.Verdict.TheVariants.{Refused}
-use Rattle.pattern.specs.declared.refusal.Verdict.TheVariants.{Accepted as Fine}
 use Rattle.pattern.specs.Patterns.{slot_at}
-use Rattle.pattern.specs.Tests.{refuse, and_then, slots_verdict}
+use Rattle.pattern.specs.Tests.{Verdict, refuse, and_then, slots_verdict}
 use Rattle.pattern.specs.Typed.{Typed}
 use Rattle.pattern.specs.Accepted.{AcceptedSlot, Accepted}
 use Rattle.pattern.specs.Laws.Accepting.{pattern-accepted}
@@ -27,15 +24,15 @@ use Rattle.merging.specs.Laws.Sharing.{bounds_shared, slot-shared, slot-unshared
 
 -- what it comes to on the n slots from slot j on: it finds none of them bad, or some
 data Tested (bad : Slot → Bool) (why : Refusal) (m : Pattern) (j n : ℕ) : Verdict → Type 0 where
-  none : ((i : ℕ) → j ≤ i → i < j + n → bad (slot_at m i) ≡ false) → Tested bad why m j n Fine
-  some : (i : ℕ) → j ≤ i → i < j + n → bad (slot_at m i) ≡ true → Tested bad why m j n (Refused why)
+  none : ((i : ℕ) → j ≤ i → i < j + n → bad (slot_at m i) ≡ false) → Tested bad why m j n (Ok tt)
+  some : (i : ℕ) → j ≤ i → i < j + n → bad (slot_at m i) ≡ true → Tested bad why m j n (Err why)
 
-tested : (bad : Slot → Bool) (why : Refusal) (m : Pattern) (n j : ℕ) → Tested bad why m j n (slots_verdict (λ k s. refuse (bad s) why Fine) m j n)
+tested : (bad : Slot → Bool) (why : Refusal) (m : Pattern) (n j : ℕ) → Tested bad why m j n (slots_verdict (λ k s. refuse (bad s) why (Ok tt)) m j n)
 unfolding slots_verdict
 tested bad why m zero j = none (λ i l h. absurd (omega arith))
 tested bad why m (suc n) j = go (bad (slot_at m j)) refl (tested bad why m n (j + 1))
   where
-    go : {v : Verdict} (b : Bool) → bad (slot_at m j) ≡ b → Tested bad why m (j + 1) n v → Tested bad why m j (suc n) (and_then (refuse b why Fine) v)
+    go : {v : Verdict} (b : Bool) → bad (slot_at m j) ≡ b → Tested bad why m (j + 1) n v → Tested bad why m j (suc n) (and_then (refuse b why (Ok tt)) v)
     go true e later = some j (omega arith) (omega arith) e
     go false e (none all) = none (λ i l h. elim (ℕ_discrete i j) [ yes q ↦ rw q e | no q ↦ all i (omega arith) (omega arith) ])
     go false e (some i l h b) = some i (omega arith) (omega arith) b
@@ -106,6 +103,6 @@ module _ {f g : Pattern} (F : Accepted f) (G : Accepted g) (T : Typed f) (W : Ty
   merge_judged = rw ((pattern-accepted f).1 F, (pattern-accepted g).1 G, eq-eqb f.count g.count e) (by_slots (tested (λ x. not (remains x)) NothingShared m f.count 0))
 
 -- and 17 where the numbers of slots differ
-pub slots_differ : {f g : Pattern} → Accepted f → Accepted g → (f.count ≡ g.count → ⊥) → merge_verdict f g ≡ Refused SlotsDiffer
+pub slots_differ : {f g : Pattern} → Accepted f → Accepted g → (f.count ≡ g.count → ⊥) → merge_verdict f g ≡ Err SlotsDiffer
 unfolding merge_verdict
 slots_differ {f} {g} F G n = rw ((pattern-accepted f).1 F, (pattern-accepted g).1 G, ne_eqb f.count g.count n)

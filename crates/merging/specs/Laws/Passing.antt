@@ -1,12 +1,11 @@
 -- What the tests of merging accept: two accepted patterns with equally many slots, whose merged slots and span have something left, and whose
 -- slots have room.
-use Rattle.std.specs.Prelude.{ℕ, ◌+◌, ◌≤◌, ◌<◌, ◌≡◌, refl, ◌↔◌, true, not, ltb, eqb}
+use Rattle.std.specs.Prelude.{ℕ, ◌+◌, ◌≤◌, ◌<◌, ◌≡◌, refl, ◌↔◌, true, not, ltb, eqb, Ok}
 use Rattle.std.proofs.Common.{arith, ap}
 use borrow.Author.Tests.{ltb-false, le-ltb, eqb-true, eq-eqb, not-false}
 use Rattle.pattern.specs.declared.slot.Slot.{Slot}
 use Rattle.pattern.specs.declared.Pattern.{Pattern}
 use Rattle.pattern.specs.declared.refusal.Refusal.TheVariants.{SlotsDiffer, NothingShared, TooManyWords}
-use Rattle.pattern.specs.declared.refusal.Verdict.TheVariants.{Accepted as Fine}
 use Rattle.pattern.specs.Patterns.{slot_at}
 use Rattle.pattern.specs.Tests.{slots_verdict, pattern_verdict}
 use Rattle.pattern.specs.Accepted.{Accepted}
@@ -15,16 +14,16 @@ use Rattle.merging.specs.Merging.{merged_pattern, remains, shared_verdict, room_
 
 -- ---- a slot
 
-shared-accepted : (j : ℕ) (s : Slot) → (shared_verdict j s ≡ Fine) ↔ (remains s ≡ true)
+shared-accepted : (j : ℕ) (s : Slot) → (shared_verdict j s ≡ Ok tt) ↔ (remains s ≡ true)
 shared-accepted j s = (
-  λ e. not-false (remains s) (refuse-accepted (not (remains s)) NothingShared Fine e).0,
-  λ e. accepted-refuse (not (remains s)) NothingShared Fine (ap not e) refl,
+  λ e. not-false (remains s) (refuse-accepted (not (remains s)) NothingShared (Ok tt) e).0,
+  λ e. accepted-refuse (not (remains s)) NothingShared (Ok tt) (ap not e) refl,
 )
 
-room_accepted : (j : ℕ) (s : Slot) → (room_verdict j s ≡ Fine) ↔ (s.count ≤ 8)
+room_accepted : (j : ℕ) (s : Slot) → (room_verdict j s ≡ Ok tt) ↔ (s.count ≤ 8)
 room_accepted j s = (
-  λ e. ltb-false 8 s.count (refuse-accepted (ltb 8 s.count) TooManyWords Fine e).0,
-  λ h. accepted-refuse (ltb 8 s.count) TooManyWords Fine (le-ltb 8 s.count h) refl,
+  λ e. ltb-false 8 s.count (refuse-accepted (ltb 8 s.count) TooManyWords (Ok tt) e).0,
+  λ h. accepted-refuse (ltb 8 s.count) TooManyWords (Ok tt) (le-ltb 8 s.count h) refl,
 )
 
 -- ---- 18 and 19
@@ -39,17 +38,17 @@ pub record Fits (m : Pattern) : Type 0 where
   pub slot : (j : ℕ) → j < m.count → (slot_at m j).count ≤ 8
 
 module _ (m : Pattern) where
-  slots_remain : (slots_verdict shared_verdict m 0 m.count ≡ Fine) ↔ ((j : ℕ) → j < m.count → remains (slot_at m j) ≡ true)
+  slots_remain : (slots_verdict shared_verdict m 0 m.count ≡ Ok tt) ↔ ((j : ℕ) → j < m.count → remains (slot_at m j) ≡ true)
   slots_remain =
       let told = slots-accepted shared_verdict (λ j s. remains s ≡ true) (λ j s. shared-accepted (j + 1) s) m m.count 0 in
       (λ e j h. told.0 e j (omega arith) (omega arith), λ all. told.1 (λ i l h. all i (omega arith)))
 
-  slots-fit : (slots_verdict room_verdict m 0 m.count ≡ Fine) ↔ Fits m
+  slots-fit : (slots_verdict room_verdict m 0 m.count ≡ Ok tt) ↔ Fits m
   slots-fit =
       let told = slots-accepted room_verdict (λ j s. s.count ≤ 8) (λ j s. room_accepted (j + 1) s) m m.count 0 in
       (λ e. record { slot = λ j h. told.0 e j (omega arith) (omega arith) }, λ fits. told.1 (λ i l h. fits.slot i (omega arith)))
 
-  result_passed : (result_verdict m ≡ Fine) ↔ (Remains m × Fits m)
+  result_passed : (result_verdict m ≡ Ok tt) ↔ (Remains m × Fits m)
   unfolding result_verdict
   result_passed = (
     λ e.
@@ -70,7 +69,7 @@ pub record Passed (f g : Pattern) : Type 0 where
   pub left : Remains (merged_pattern f g)
   pub fits : Fits (merged_pattern f g)
 
-pub merge_passed : (f g : Pattern) → (merge_verdict f g ≡ Fine) ↔ Passed f g
+pub merge_passed : (f g : Pattern) → (merge_verdict f g ≡ Ok tt) ↔ Passed f g
 unfolding merge_verdict
 merge_passed f g = (
   λ e.

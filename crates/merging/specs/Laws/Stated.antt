@@ -2,15 +2,13 @@
 use Prim.Native.Nat.{ℕ, zero, suc, ◌+◌, ◌≤◌}
 use Rattle.std.proofs.Common.{arith, ◌∙◌}
 use Rattle.std.proofs.Math.Decide.{ℕ_discrete}
-use Rattle.std.specs.Prelude.{◌≡◌}
+use Rattle.std.specs.Prelude.{◌≡◌, Ok, Err}
 use Rattle.std.proofs.Math.Path.{refl, sym}
 use borrow.Author.Tests.{ne_eqb}
 use Rattle.pattern.specs.declared.slot.Slot.{Slot}
 use Rattle.pattern.specs.declared.Pattern.{Pattern}
 use Rattle.pattern.specs.declared.refusal.Refusal.TheVariants.{SlotsDiffer}
-use Rattle.pattern.specs.declared.refusal.Verdict.{Verdict}
-use Rattle.pattern.specs.declared.refusal.Verdict.TheVariants.{Accepted, Refused}
-use Rattle.pattern.specs.Tests.{and_then, pattern_verdict}
+use Rattle.pattern.specs.Tests.{Verdict, and_then, pattern_verdict}
 use Rattle.pattern.specs.Stated.{SameSlot, SameStated}
 use Rattle.pattern.specs.Laws.Stated.{stated_same, verdict_same}
 use Rattle.merging.specs.Slots.{merged_slot}
@@ -20,10 +18,10 @@ slot_same : {s s' u u' : Slot} → SameSlot s s' → SameSlot u u' → merged_sl
 slot_same p q = rw (stated_same p, stated_same q, p.low, q.low, p.high, q.high, p.excluding, q.excluding)
 
 -- where the numbers of slots differ the tests stop at 17, whatever the slots
-stopped : (v w : Verdict) (m n : Pattern) → answered (and_then v (and_then w (Refused SlotsDiffer))) m ≡ answered (and_then v (and_then w (Refused SlotsDiffer))) n
-stopped Accepted Accepted m n = refl
-stopped Accepted (Refused why) m n = refl
-stopped (Refused why) w m n = refl
+stopped : (v w : Verdict) (m n : Pattern) → answered (and_then v (and_then w (Err SlotsDiffer))) m ≡ answered (and_then v (and_then w (Err SlotsDiffer))) n
+stopped (Ok x) (Ok y) m n = refl
+stopped (Ok x) (Err why) m n = refl
+stopped (Err why) w m n = refl
 
 module _ {f f' g g' : Pattern} (p : SameStated f f') (q : SameStated g g') where
   -- of as many slots as both state

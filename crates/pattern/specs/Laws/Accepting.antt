@@ -1,5 +1,5 @@
 -- The tests accept exactly the patterns and texts within the limits.
-use Rattle.std.specs.Prelude.{ℕ, zero, suc, ◌+◌, ◌≤◌, ◌<◌, ◌≡◌, refl, ◌↔◌, Bool, true, false, not, ltb, eqb}
+use Rattle.std.specs.Prelude.{ℕ, zero, suc, ◌+◌, ◌≤◌, ◌<◌, ◌≡◌, refl, ◌↔◌, Bool, true, false, not, ltb, eqb, Ok, Err}
 use Rattle.std.proofs.Common.{arith, ap, true≢false, ltb-false, le-ltb, ne_eqb, eq-eqb}
 use Rattle.std.proofs.Math.Decide.{ℕ_discrete}
 use Rattle.std.proofs.lemmas.Bool.{eqb-false, not-false}
@@ -7,35 +7,32 @@ use Rattle.pattern.specs.declared.slot.Slot.{Slot}
 use Rattle.pattern.specs.declared.Pattern.{Pattern}
 use Rattle.pattern.specs.declared.refusal.Refusal.{Refusal}
 use Rattle.pattern.specs.declared.refusal.Refusal.TheVariants.{SlotCount, WordCount, ZeroWord, Gap, Span, TextLength, WordOrder}
-use Rattle.pattern.specs.declared.refusal.Verdict.{Verdict}
-use Rattle.pattern.specs.declared.refusal.Verdict.TheVariants.{Refused}
-use Rattle.pattern.specs.declared.refusal.Verdict.TheVariants.{Accepted as Fine}
 use Rattle.pattern.specs.Patterns.{stated, lists, taken, takes, slot_at}
 use Rattle.pattern.specs.Words.{Rising, rises}
-use Rattle.pattern.specs.Tests.{refuse, and_then, widest_gap, fewest_words, slot_verdict, order_verdict, slots_verdict, span_verdict, limits_verdict, pattern_verdict, input_verdict}
+use Rattle.pattern.specs.Tests.{Verdict, refuse, and_then, widest_gap, fewest_words, slot_verdict, order_verdict, slots_verdict, span_verdict, limits_verdict, pattern_verdict, input_verdict}
 use Rattle.pattern.specs.Accepted.{AcceptedSlot, Accepted, AcceptedInput}
 use Rattle.pattern.specs.Laws.Members.{member_false}
 use Rattle.pattern.specs.Laws.Words.{rises_iff}
 
-pub refused_fine : {why : Refusal} → Refused why ≡ Fine → ⊥
+pub refused_fine : {why : Refusal} → ◌≡◌ {A = Verdict} (Err why) (Ok tt) → ⊥
 refused_fine e = let z : ◌≡◌ {A = ℕ} 0 1 = cc in omega arith
 
 -- a test followed by others accepts where it does not apply and they accept
-pub refuse-accepted : (applies : Bool) (why : Refusal) (later : Verdict) → refuse applies why later ≡ Fine → (applies ≡ false) × (later ≡ Fine)
+pub refuse-accepted : (applies : Bool) (why : Refusal) (later : Verdict) → refuse applies why later ≡ Ok tt → (applies ≡ false) × (later ≡ Ok tt)
 refuse-accepted true why later e = absurd (refused_fine e)
 refuse-accepted false why later e = (refl, e)
 
-pub accepted-refuse : (applies : Bool) (why : Refusal) (later : Verdict) → applies ≡ false → later ≡ Fine → refuse applies why later ≡ Fine
+pub accepted-refuse : (applies : Bool) (why : Refusal) (later : Verdict) → applies ≡ false → later ≡ Ok tt → refuse applies why later ≡ Ok tt
 accepted-refuse true why later e f = absurd (true≢false e)
 accepted-refuse false why later e f = f
 
-pub then_accepted : (v later : Verdict) → and_then v later ≡ Fine → (v ≡ Fine) × (later ≡ Fine)
-then_accepted Fine later e = (refl, e)
-then_accepted (Refused why) later e = absurd (refused_fine e)
+pub then_accepted : (v later : Verdict) → and_then v later ≡ Ok tt → (v ≡ Ok tt) × (later ≡ Ok tt)
+then_accepted (Ok tt) later e = (refl, e)
+then_accepted (Err why) later e = absurd (refused_fine e)
 
-pub accepted_then : (v later : Verdict) → v ≡ Fine → later ≡ Fine → and_then v later ≡ Fine
-accepted_then Fine later e f = f
-accepted_then (Refused why) later e f = absurd (refused_fine e)
+pub accepted_then : (v later : Verdict) → v ≡ Ok tt → later ≡ Ok tt → and_then v later ≡ Ok tt
+accepted_then (Ok tt) later e f = f
+accepted_then (Err why) later e f = absurd (refused_fine e)
 
 -- ---- a slot
 
@@ -77,7 +74,7 @@ positive : (n : ℕ) → (n ≡ 0 → ⊥) → 1 ≤ n
 positive zero h = absurd (h refl)
 positive (suc n) h = omega arith
 
-pub slot-accepted : (j : ℕ) (s : Slot) → (slot_verdict (j + 1) s ≡ Fine) ↔ (AcceptedSlot s × (j ≡ 0 → s.high ≡ 0))
+pub slot-accepted : (j : ℕ) (s : Slot) → (slot_verdict (j + 1) s ≡ Ok tt) ↔ (AcceptedSlot s × (j ≡ 0 → s.high ≡ 0))
 unfolding slot_verdict
 slot-accepted j s = (
   λ e.
@@ -106,18 +103,18 @@ slot-accepted j s = (
 )
 
 -- 16 accepts where the words rise
-pub order_accepted : (j : ℕ) (s : Slot) → (order_verdict (j + 1) s ≡ Fine) ↔ Rising (stated s)
+pub order_accepted : (j : ℕ) (s : Slot) → (order_verdict (j + 1) s ≡ Ok tt) ↔ Rising (stated s)
 order_accepted j s =
     let told = rises_iff (stated s) in (
-      λ e. told.0 (not-false (rises (stated s)) (refuse-accepted (not (rises (stated s))) (WordOrder (j + 1)) Fine e).0),
-      λ r. accepted-refuse (not (rises (stated s))) (WordOrder (j + 1)) Fine (ap not (told.1 r)) refl,
+      λ e. told.0 (not-false (rises (stated s)) (refuse-accepted (not (rises (stated s))) (WordOrder (j + 1)) (Ok tt) e).0),
+      λ r. accepted-refuse (not (rises (stated s))) (WordOrder (j + 1)) (Ok tt) (ap not (told.1 r)) refl,
     )
 
 -- ---- slot by slot
 
 -- where a test of one slot accepts exactly if P holds, the tests of some slots accept exactly if P holds of each
-pub slots-accepted : (test : ℕ → Slot → Verdict) (P : ℕ → Slot → Type 0) → ((j : ℕ) (s : Slot) → (test (j + 1) s ≡ Fine) ↔ P j s) → (f : Pattern) (n j : ℕ)
-    → (slots_verdict test f j n ≡ Fine) ↔ ((i : ℕ) → j ≤ i → i < j + n → P i (slot_at f i))
+pub slots-accepted : (test : ℕ → Slot → Verdict) (P : ℕ → Slot → Type 0) → ((j : ℕ) (s : Slot) → (test (j + 1) s ≡ Ok tt) ↔ P j s) → (f : Pattern) (n j : ℕ)
+    → (slots_verdict test f j n ≡ Ok tt) ↔ ((i : ℕ) → j ≤ i → i < j + n → P i (slot_at f i))
 unfolding slots_verdict
 slots-accepted test P told f zero j = (λ e i l h. absurd (omega arith), λ h. refl)
 slots-accepted test P told f (suc n) j = (
@@ -142,7 +139,7 @@ WordsRise j s = Rising (stated s)
 
 -- ---- a pattern, and a text with it
 
-span-accepted : (least most : ℕ) → (span_verdict least most ≡ Fine) ↔ ((1 ≤ least) × ((least ≤ most) × (most ≤ 20000)))
+span-accepted : (least most : ℕ) → (span_verdict least most ≡ Ok tt) ↔ ((1 ≤ least) × ((least ≤ most) × (most ≤ 20000)))
 unfolding span_verdict
 span-accepted least most = (
   λ e.
@@ -163,7 +160,7 @@ record Within (f : Pattern) : Type 0 where
   slot : (j : ℕ) → j < f.count → SlotWithin j (slot_at f j)
   span : (1 ≤ f.least) × ((f.least ≤ f.most) × (f.most ≤ 20000))
 
-limits-accepted : (f : Pattern) → (limits_verdict f ≡ Fine) ↔ Within f
+limits-accepted : (f : Pattern) → (limits_verdict f ≡ Ok tt) ↔ Within f
 unfolding limits_verdict
 limits-accepted f = (
   λ e.
@@ -186,13 +183,13 @@ limits-accepted f = (
 )
 
 -- at most sixteen slots of at most eight words, as the tests 1 to 5 leave them
-pub limits-slots : (f : Pattern) → limits_verdict f ≡ Fine → f.count ≤ 16
+pub limits-slots : (f : Pattern) → limits_verdict f ≡ Ok tt → f.count ≤ 16
 limits-slots f e = ((limits-accepted f).0 e).few
 
-pub limits-few : (f : Pattern) → limits_verdict f ≡ Fine → (j : ℕ) → j < f.count → (slot_at f j).count ≤ 8
+pub limits-few : (f : Pattern) → limits_verdict f ≡ Ok tt → (j : ℕ) → j < f.count → (slot_at f j).count ≤ 8
 limits-few f e j h = (((limits-accepted f).0 e).slot j h).0.few
 
-pub pattern-accepted : (f : Pattern) → (pattern_verdict f ≡ Fine) ↔ Accepted f
+pub pattern-accepted : (f : Pattern) → (pattern_verdict f ≡ Ok tt) ↔ Accepted f
 unfolding pattern_verdict
 pattern-accepted f = (
   λ e.
@@ -215,13 +212,13 @@ pattern-accepted f = (
       ((slots-accepted order_verdict WordsRise order_accepted f f.count 0).1 (λ i l h. a.rising i (omega arith))),
 )
 
-pub input-accepted : (f : Pattern) (n : ℕ) → (input_verdict f n ≡ Fine) ↔ AcceptedInput f n
+pub input-accepted : (f : Pattern) (n : ℕ) → (input_verdict f n ≡ Ok tt) ↔ AcceptedInput f n
 unfolding input_verdict
 input-accepted f n = (
   λ e.
-      let a = then_accepted (pattern_verdict f) (refuse (ltb 20000 n) TextLength Fine) e in
-      record { pattern = (pattern-accepted f).0 a.0; short = ltb-false 20000 n (refuse-accepted (ltb 20000 n) TextLength Fine a.1).0 },
+      let a = then_accepted (pattern_verdict f) (refuse (ltb 20000 n) TextLength (Ok tt)) e in
+      record { pattern = (pattern-accepted f).0 a.0; short = ltb-false 20000 n (refuse-accepted (ltb 20000 n) TextLength (Ok tt) a.1).0 },
   λ a.
-      accepted_then (pattern_verdict f) (refuse (ltb 20000 n) TextLength Fine) ((pattern-accepted f).1 a.pattern)
-      (accepted-refuse (ltb 20000 n) TextLength Fine (le-ltb 20000 n a.short) refl),
+      accepted_then (pattern_verdict f) (refuse (ltb 20000 n) TextLength (Ok tt)) ((pattern-accepted f).1 a.pattern)
+      (accepted-refuse (ltb 20000 n) TextLength (Ok tt) (le-ltb 20000 n a.short) refl),
 )

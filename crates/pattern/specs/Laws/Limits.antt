@@ -2,15 +2,13 @@
 use Prim.Native.Nat.{ℕ, zero, suc, ◌+◌, ◌≤◌, ◌<◌}
 use Rattle.std.proofs.Common.{arith, ◌∙◌}
 use Rattle.std.proofs.Math.Decide.{dec_lt}
-use Rattle.std.specs.Prelude.{◌≡◌, length}
+use Rattle.std.specs.Prelude.{◌≡◌, length, Ok, Err}
 use Rattle.std.proofs.Math.Path.{refl, ap}
 use borrow.Author.Tests.{lt-ltb}
 use Rattle.pattern.specs.declared.Pattern.{Pattern}
-use Rattle.pattern.specs.declared.refusal.Verdict.{Verdict}
-use Rattle.pattern.specs.declared.refusal.Verdict.TheVariants.{Accepted, Refused}
 use Rattle.pattern.specs.Patterns.{slot_at}
 use Rattle.pattern.specs.Words.{canonical}
-use Rattle.pattern.specs.Tests.{and_then, slot_verdict, order_verdict, slots_verdict, limits_verdict, pattern_verdict}
+use Rattle.pattern.specs.Tests.{Verdict, and_then, slot_verdict, order_verdict, slots_verdict, limits_verdict, pattern_verdict}
 use Rattle.pattern.specs.Laws.Accepting.{WordsRise, slots-accepted, order_accepted, limits-slots, limits-few}
 use Rattle.pattern.specs.Laws.Canonical.{canonical-verdict, canonical-rising}
 
@@ -42,7 +40,7 @@ module _ {g f : Pattern} (H : Holds g f) where
             rw (slots, H.count, H.least, H.most)
       ]
 
-  order_held : limits_verdict f ≡ Accepted → f.count ≤ 16 → slots_verdict order_verdict g 0 g.count ≡ Accepted
+  order_held : limits_verdict f ≡ Ok tt → f.count ≤ 16 → slots_verdict order_verdict g 0 g.count ≡ Ok tt
   order_held e few =
       (slots-accepted order_verdict WordsRise order_accepted g g.count 0).1
       (λ i l h. let k : i < f.count = omega (arith, H.count) in rw (H.slot i k (omega arith)) (canonical-rising (slot_at f i) (limits-few f e i k)))
@@ -53,5 +51,5 @@ module _ {g f : Pattern} (H : Holds g f) where
   verdict_held = ap (λ (v : Verdict). and_then v (slots_verdict order_verdict g 0 g.count)) limits_held ∙ go (limits_verdict f) refl
     where
       go : (v : Verdict) → limits_verdict f ≡ v → and_then v (slots_verdict order_verdict g 0 g.count) ≡ v
-      go (Refused why) e = refl
-      go Accepted e = order_held e (limits-slots f e)
+      go (Err why) e = refl
+      go (Ok tt) e = order_held e (limits-slots f e)

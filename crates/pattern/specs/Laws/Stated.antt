@@ -5,8 +5,7 @@ use Rattle.std.proofs.Common.{arith, length-take}
 use Rattle.pattern.specs.declared.slot.Slot.{Slot}
 use Rattle.pattern.specs.declared.Pattern.{Pattern}
 use Rattle.pattern.specs.Patterns.{stated}
-use Rattle.pattern.specs.declared.refusal.Verdict.{Verdict}
-use Rattle.pattern.specs.Tests.{slot_verdict, order_verdict, slots_verdict, limits_verdict, pattern_verdict, input_verdict}
+use Rattle.pattern.specs.Tests.{Verdict, slot_verdict, order_verdict, slots_verdict, limits_verdict, pattern_verdict, input_verdict}
 use Rattle.pattern.specs.Stated.{SameSlot, SameStated}
 
 take_same : (n : ℕ) (l m : List ℕ) → length l ≡ length m → ((k : ℕ) → k < n → get_or l k 0 ≡ get_or m k 0) → take n l ≡ take n m

@@ -1,8 +1,7 @@
 -- Files that are written: one byte for byte, and one that is as long as any. They compute. Assumes nothing.
-use Rattle.std.specs.Prelude.{ℕ, ◌≡◌, refl, true, false, List, [], ◌∷◌, length, replicate}
+use Rattle.std.specs.Prelude.{ℕ, ◌≡◌, refl, true, false, List, [], ◌∷◌, length, replicate, Ok}
 use Rattle.basics.specs.Digits.{digits_in}
 use Rattle.pattern.specs.declared.Pattern.{Pattern}
-use Rattle.pattern.specs.declared.refusal.Verdict.TheVariants.{Accepted}
 use Rattle.pattern.specs.Patterns.{member}
 use Rattle.pattern.specs.Words.{rises, canonical, sorted, inserted}
 use Rattle.pattern.specs.Tests.{limits_verdict, pattern_verdict, slot_verdict, slots_verdict, span_verdict}
@@ -30,6 +29,6 @@ largest_pattern = shown_pattern 10000 20000 (record { low = 0; high = 0; excludi
     long : List ℕ
     long = 65528 ∷ 65529 ∷ 65530 ∷ 65531 ∷ 65532 ∷ 65533 ∷ 65534 ∷ 65535 ∷ []
 
-largest-written : (pattern_verdict largest_pattern ≡ Accepted) × (length (pattern_text largest_pattern) ≡ most_printed)
+largest-written : (pattern_verdict largest_pattern ≡ Ok tt) × (length (pattern_text largest_pattern) ≡ most_printed)
 unfolding largest_pattern pattern_text slot_text closed joined digits digits_in pattern_verdict limits_verdict slots_verdict slot_verdict span_verdict rises canonical sorted inserted member
 largest-written = (refl, refl)

@@ -1,19 +1,17 @@
 -- A pattern as a file: what it shows, and that accepted patterns are printed as the same bytes exactly if they agree.
-use Rattle.std.specs.Prelude.{ℕ, zero, suc, ◌≤◌, ◌<◌, ◌≡◌, refl, ◌↔◌, length, get_or, take}
+use Rattle.std.specs.Prelude.{ℕ, zero, suc, ◌≤◌, ◌<◌, ◌≡◌, refl, ◌↔◌, length, get_or, take, Ok, Err}
 use Rattle.std.proofs.Common.{arith, sym, ◌∙◌, ap, subst, length-take, get_or-take}
 use mathlib.Core.List.{List, [], ◌∷◌, map}
 use Rattle.std.proofs.lemmas.List.{length-map}
 use Rattle.std.proofs.Math.ListN.{get_or-map}
 use Rattle.pattern.specs.declared.slot.Slot.{Slot}
 use Rattle.pattern.specs.declared.Pattern.{Pattern}
-use Rattle.pattern.specs.declared.refusal.Verdict.{Verdict}
-use Rattle.pattern.specs.declared.refusal.Verdict.TheVariants.{Refused, Accepted as Fine}
 use Rattle.pattern.specs.Patterns.{stated, no_slot, slot_at}
 use Rattle.pattern.specs.Agree.{AgreeSlot, Agree}
 use Rattle.pattern.specs.Typed.{TypedSlot, Typed}
 use Rattle.pattern.specs.Accepted.{AcceptedSlot, Accepted}
 use Rattle.pattern.specs.Stated.{SameStated}
-use Rattle.pattern.specs.Tests.{pattern_verdict}
+use Rattle.pattern.specs.Tests.{Verdict, pattern_verdict}
 use Rattle.pattern.specs.Laws.Agree.{agree_stated, same_agree}
 use Rattle.pattern.specs.Laws.Accepting.{pattern-accepted}
 use Rattle.pattern.specs.Laws.Stated.{stated-count, verdict_same}
@@ -111,14 +109,14 @@ module _ {f g : Pattern} (F : Typed f) (G : Typed g) (A : Accepted f) (B : Accep
 -- ---- entries past the stated numbers are not looked at: patterns that state the same are written alike
 
 module _ {f g : Pattern} (F : Typed f) (G : Typed g) (same : SameStated f g) where
-  text_same : pattern_verdict f ≡ Fine → pattern_text f ≡ pattern_text g
+  text_same : pattern_verdict f ≡ Ok tt → pattern_text f ≡ pattern_text g
   text_same e = (same_bytes F G ((pattern-accepted f).0 e) ((pattern-accepted g).0 (sym (verdict_same same) ∙ e))).1 (same_agree same)
 
   by_verdict : (v : Verdict) → pattern_verdict f ≡ v → (room : ℕ) (out : List ℕ)
       → (printed_by v (length (pattern_text f)) room ≡ printed_by v (length (pattern_text g)) room)
       × (written_by (printed_by v (length (pattern_text f)) room) (pattern_text f) out ≡ written_by (printed_by v (length (pattern_text g)) room) (pattern_text g) out)
-  by_verdict (Refused why) e room out = (refl, refl)
-  by_verdict Fine e room out = let t = text_same e in (rw t, rw t)
+  by_verdict (Err why) e room out = (refl, refl)
+  by_verdict (Ok tt) e room out = let t = text_same e in (rw t, rw t)
 
   -- the answer, and what the list then holds
   pub written_same : (out : List ℕ) → (pattern_printed f (length out) ≡ pattern_printed g (length out)) × (pattern_written f out ≡ pattern_written g out)

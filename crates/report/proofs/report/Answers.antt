@@ -17,5 +17,5 @@ slice_bounds-files_report-end c = let within = parting_within c.args.input.now 1
 pub returns-clause-value : goal.returns-clause-value
 returns-clause-value c =
     let parted = c.parted-end in
-    let start = c.smaller-start in
+    let start = c.min-start in
     writes_all (writes_same (input-parted c.args.input.now parted.result start.result (omega arith) parted.ensures start.ensures) c.files_report.ensures)

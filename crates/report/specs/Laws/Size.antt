@@ -1,16 +1,14 @@
 -- No report is longer than its parts allow. Assumes nothing.
-use Rattle.std.specs.Prelude.{ℕ, zero, suc, ◌+◌, ◌-◌, ◌*◌, ◌/◌, ◌%◌, ◌≤◌, ◌<◌, min, ◌≡◌, refl, Bool, true, false, List, [], ◌∷◌, ◌++◌, ltb, length, get_or, take, drop}
+use Rattle.std.specs.Prelude.{ℕ, zero, suc, ◌+◌, ◌-◌, ◌*◌, ◌/◌, ◌%◌, ◌≤◌, ◌<◌, min, ◌≡◌, refl, Bool, true, false, List, [], ◌∷◌, ◌++◌, ltb, length, get_or, take, drop, Result, Ok, Err}
 use Rattle.std.proofs.Common.{arith, div-le_self, le-mul_of_pos_right, mod-lt, ap, ◌∙◌, length-append, get_or-append-add, take_at, ltb-true, ltb-false}
 use Rattle.std.proofs.Math.ListN.{get_or-append}
 use Rattle.pattern.specs.Laws.Accepting.{input-accepted}
 use Rattle.pattern.specs.Refusals.{number_of, place_of}
 use Rattle.basics.specs.Choice.{pick}
-use Rattle.pattern.specs.Tests.{input_verdict}
+use Rattle.pattern.specs.Tests.{Verdict, input_verdict}
 use Rattle.pattern.specs.declared.Pattern.{Pattern}
 use Rattle.pattern.specs.declared.refusal.Refusal.{Refusal}
 use Rattle.pattern.specs.declared.refusal.Refusal.TheVariants.{FileLength, ListLength}
-use Rattle.pattern.specs.declared.refusal.Verdict.{Verdict}
-use Rattle.pattern.specs.declared.refusal.Verdict.TheVariants.{Accepted, Refused}
 use Rattle.matching.specs.Answers.{front_listed}
 use Rattle.basics.specs.Collections.{Every, none, more}
 use Rattle.matching.proofs.Laws.Largest.{largest}
@@ -18,14 +16,12 @@ use Rattle.matching.specs.Lists.{leftmost, rightmost}
 use Rattle.matching.specs.Occurrence.{Occurs}
 use Rattle.basics.specs.Written.{flat}
 use Rattle.counting.specs.Answers.{tallied}
-use Rattle.counting.specs.declared.total.Tallied.{Tallied}
-use Rattle.counting.specs.declared.total.Tallied.TheVariants.{Total, Refused as NotTallied}
+use Rattle.counting.specs.Halves.{high, low}
+use Rattle.format.specs.declared.input.Input.{Input}
 use Rattle.format.specs.Input.{input_read}
 use Rattle.basics.specs.Digits.{digits_in}
 use Rattle.format.specs.Shown.{closed, joined}
 use Rattle.format.specs.Texts.{shown_words, text_contents}
-use Rattle.format.specs.declared.texts.TextRead.{TextRead}
-use Rattle.format.specs.declared.texts.TextRead.TheVariants.{Words, Refused as NotRead}
 use Rattle.report.specs.Files.{pattern_file, text_file}
 use Rattle.basics.specs.Laws.Digits.{few-digits, most-digits}
 use Rattle.format.specs.Laws.Lines.{closed-append}
@@ -97,7 +93,7 @@ entry-size m front back e some few h p q =
       few-digits 19 4 (get_or back e 0) (omega arith),
     )
 
-lists-size : (f : Pattern) (t : List ℕ) (high low : ℕ) → input_verdict f (length t) ≡ Accepted → length (leftmost f t) * f.count ≤ 16000
+lists-size : (f : Pattern) (t : List ℕ) (high low : ℕ) → input_verdict f (length t) ≡ Ok tt → length (leftmost f t) * f.count ≤ 16000
     → length (lists_report f.count (leftmost f t) (rightmost f t) high low) ≤ report_bound
 lists-size f t high low ok room =
     let a = (input-accepted f (length t)).0 ok in
@@ -120,9 +116,9 @@ lists-size f t high low ok room =
 
 -- ---- the whole report
 
-tally-size : (a : Tallied) (f : Pattern) (t : List ℕ) → input_verdict f (length t) ≡ Accepted → length (leftmost f t) * f.count ≤ 16000 → length (after_tally a f t) ≤ report_bound
-tally-size (Total high low) f t ok room = lists-size f t high low ok room
-tally-size (NotTallied why) f t ok room = refusal_size why
+tally-size : (a : Result ℕ Refusal) (f : Pattern) (t : List ℕ) → input_verdict f (length t) ≡ Ok tt → length (leftmost f t) * f.count ≤ 16000 → length (after_tally a f t) ≤ report_bound
+tally-size (Ok n) f t ok room = lists-size f t (high n) (low n) ok room
+tally-size (Err why) f t ok room = refusal_size why
 
 search_size : (f : Pattern) (t : List ℕ) → length (search_report f t) ≤ report_bound
 unfolding search_report
@@ -130,13 +126,13 @@ search_size f t = go (input_verdict f (length t)) refl (ltb 16000 (length (leftm
   where
     go : (v : Verdict) → input_verdict f (length t) ≡ v → (x : Bool) → ltb 16000 (length (leftmost f t) * f.count) ≡ x
         → length (after_lists (front_listed f t 16000) f t) ≤ report_bound
-    go (Refused why) e x b = rw e (refusal_size why)
-    go Accepted e true b = rw (e, b) (refusal_size (ListLength (length (leftmost f t))))
-    go Accepted e false b = rw (e, b) (tally-size (tallied f t) f t e (ltb-false 16000 (length (leftmost f t) * f.count) b))
+    go (Err why) e x b = rw e (refusal_size why)
+    go (Ok tt) e true b = rw (e, b) (refusal_size (ListLength (length (leftmost f t))))
+    go (Ok tt) e false b = rw (e, b) (tally-size (tallied f t) f t e (ltb-false 16000 (length (leftmost f t) * f.count) b))
 
-text-size : (r : TextRead) (f : Pattern) (t : List ℕ) → length (after_text r f t) ≤ report_bound
-text-size (Words n) f t = search_size f t
-text-size (NotRead why) f t = refusal_size why
+text-size : (r : Result Input Refusal) (t : List ℕ) → length (after_text r t) ≤ report_bound
+text-size (Ok input) t = search_size input.pattern t
+text-size (Err why) t = refusal_size why
 
 pub report_size : (input : List ℕ) → length (reported input) ≤ report_bound
 unfolding reported files_report
@@ -144,7 +140,7 @@ report_size input = go (ltb 60000 (length input))
   where
     go : (x : Bool) → length (pick x (refusal_report FileLength) (files_report (pattern_file input) (text_file input))) ≤ report_bound
     go true = refusal_size FileLength
-    go false = text-size (input_read (pattern_file input) (text_file input) 20000).text (input_read (pattern_file input) (text_file input) 20000).pattern (shown_words (text_contents (text_file input)))
+    go false = text-size (input_read (pattern_file input) (text_file input) 20000) (shown_words (text_contents (text_file input)))
 
 -- a list of so many bytes holds the whole report
 pub report_whole : (input out : List ℕ) {after : List ℕ} {end : ℕ} → report_bound ≤ length out

@@ -3,11 +3,11 @@ use Rattle.std.proofs.Common.{◌∙◌, arith}
 use Rattle.counting.proofs.Columns.{blank_new, column-total, column_fits}
 use Rattle.counting.proofs.column.count.Goals as goal
 
-pub fill-requires-clause-fact_2 : goal.fill-requires-clause-fact_2
-fill-requires-clause-fact_2 c = blank_new 20001 _ (omega (arith, c.requires.input.short))
+pub fill-requires-clause-blank : goal.fill-requires-clause-blank
+fill-requires-clause-blank c = blank_new 20001 _ (omega (arith, c.requires.handed.input.short))
 
-pub sum-requires-clause-fact_2 : goal.sum-requires-clause-fact_2
-sum-requires-clause-fact_2 c = let k = c.requires in column_fits k.input (c.fill.ensures k)
+pub sum_of-requires : goal.sum_of-requires
+sum_of-requires c = let g = c.requires in column_fits g.handed.input (omega (arith, c.fill.auto.column, g.handed.input.short)) (c.fill.ensures g)
 
 pub returns : goal.returns
-returns c = λ k. c.sum.ensures ∙ column-total k.input (c.fill.ensures k)
+returns c = λ g. c.sum_of.ensures ∙ column-total g.handed.input (omega (arith, c.fill.auto.column, g.handed.input.short)) (c.fill.ensures g)

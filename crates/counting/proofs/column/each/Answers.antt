@@ -1,43 +1,29 @@
 -- `counting::column::each` meets its contract. The invariant: the column is done for the places passed.
-use Rattle.std.proofs.Common.{◌∙◌, arith}
-use Rattle.counting.proofs.Parting.{last_inside, start_run}
-use Rattle.counting.proofs.Columns.{filling_begin, filling_more, filling_skip, column_done}
+use Rattle.std.proofs.Common.{ℕ, ◌+◌, ap, arith}
+use Rattle.counting.proofs.Distances.{span_some}
+use Rattle.counting.proofs.Parting.{start_within, start_few}
+use Rattle.counting.proofs.Columns.{filling_more, filling_skip, column_done}
 use Rattle.counting.proofs.column.each.Goals as goal
+use Rattle.counting.proofs.column.each.Goals.{then-tables-i-eq1, else-tables-i-eq1}
 
-pub loop-i-init : goal.loop-i-init
-loop-i-init c = record { inside = omega arith; filling = λ g el es. filling_begin c.requires.fact_2 }
+pub ways-requires-clause-within : goal.ways-requires-clause-within
+ways-requires-clause-within c = start_within c.requires.plan c.loop-i-test.true c.start.ensures
 
-pub overflow_sub-widen : goal.overflow_sub-widen
-overflow_sub-widen c = omega (arith, last_inside c.requires.fact_1.horizons c.loop-i-test.true c.widen.ensures.0)
-
-pub ways-requires : goal.ways-requires
-ways-requires c =
-    let z = c.requires.fact_3 in
-    record {
-      fact_1 = start_run c.requires.fact_1 c.loop-i-test.true c.widen.ensures.0 z.1 c.smaller.ensures;
-      fact_2 = record { high = omega (arith, c.smaller.ensures, z.2); low = omega (arith, c.smaller.ensures, z.2) };
-    }
-
-pub loop-i-preserved-then-fits-i-eq1 : goal.loop-i-preserved-then-fits-i-eq1
-loop-i-preserved-then-fits-i-eq1 c =
-    let l = c.loop-i in
-    let z = c.requires.fact_3 in
-    let i = c.loop-i-test.true in
-    let last = c.widen.ensures.0 in
-    record {
-      inside = omega arith;
-      filling = λ g el es.
-          filling_more (l.invariant.filling g el es) g.plan.handed.input c.requires.fact_2.room i es z.1 (last ∙ g.horizons.last l.i i) c.smaller.ensures (omega (arith, el))
-          (c.ways.ensures (start_run g i last z.1 c.smaller.ensures));
-    }
+pub ways-requires-clause-room : goal.ways-requires-clause-room
+ways-requires-clause-room c = omega (arith, c.start.array_long, start_few c.requires.plan c.loop-i-test.true c.start.ensures)
 
 pub loop-i-preserved : goal.loop-i-preserved
-loop-i-preserved c =
+loop-i-preserved c = λ g.
+    let h = g.handed in
+    let o = h.outlined in
     let i = c.loop-i-test.true in
-    record {
-      inside = omega arith;
-      filling = λ g el es. filling_skip (c.loop-i.invariant.filling g el es) g.plan.handed.input c.requires.fact_2.room i g.plan.handed.table c.if-fits-i-eq1.false;
-    }
+    let l = c.loop-i in
+    let room = c.requires.blank.room in
+    elim c.if-tables-i-eq1.branch [
+      | then-tables-i-eq1 w ↦ rw w.column-is
+          (filling_more (l.invariant g) h.input room i o.widest (span_some h.input.pattern o.widest) (h.horizons.last l.i i) (ap (λ (z : ℕ). l.i + z) o.shortest) w.start.ensures (w.ways.ensures g))
+      | else-tables-i-eq1 w ↦ rw w.column-is (filling_skip (l.invariant g) h.input room i h.table w.if-tables-i-eq1.false)
+    ]
 
 pub returns : goal.returns
-returns c = λ g el es. column_done (c.loop-i.invariant.filling g el es).filled c.loop-i-test.false
+returns c = λ g. column_done (c.loop-i.invariant g).filled c.loop-i-test.false

@@ -1,52 +1,35 @@
 -- `counting::column::whole` meets its contract. The invariant: the column is done for the sentences passed.
-use Rattle.std.proofs.Common.{◌-◌, ◌<◌, ◌≤◌, length, ◌∙◌, arith}
+use Rattle.std.proofs.Common.{◌-◌, length, sym, ◌∙◌, arith}
 use borrow.Rule.Slice.PartMut.{same_len_mid}
 use Rattle.basics.specs.Laws.Lending.{tail_length, mid_is}
-use Rattle.counting.proofs.Parting.{last_inside, sentence_run}
-use Rattle.counting.proofs.Columns.{filled_begin, filled_more, column_done}
+use Rattle.counting.proofs.Parting.{sentence_within, sentence_next, sentence_past}
+use Rattle.counting.proofs.Columns.{filled_more, column_done}
 use Rattle.counting.proofs.column.whole.Goals as goal
-use Rattle.counting.proofs.column.whole.Goals.{After-widen-end}
 
--- the sentence ends past the index of its first place, in the text
-inside : (c : After-widen-end) → (c.loop-i.i < c.widen-end.result) × (c.widen-end.result ≤ c.args.n)
-inside c = last_inside c.requires.fact_1.horizons c.loop-i-test.true c.widen-end.ensures.0
+pub ways-requires-clause-within : goal.ways-requires-clause-within
+ways-requires-clause-within c = sentence_within c.requires.plan c.loop-i-test.true c.sentence-w.ensures
 
-pub loop-i-init : goal.loop-i-init
-loop-i-init c = λ g spans. filled_begin
-
-pub overflow_sub-w : goal.overflow_sub-w
-overflow_sub-w c = omega (arith, inside c)
-
-pub overflow_sub-w-in-loop-i : goal.overflow_sub-w-in-loop-i
-overflow_sub-w-in-loop-i c = omega (arith, inside c)
-
-pub ways-requires : goal.ways-requires
-ways-requires c =
-    let h = inside (goal.at.ways-requires c).After-widen-end in
+pub ways-requires-clause-room : goal.ways-requires-clause-room
+ways-requires-clause-room c =
     let l = c.loop-i in
-    let r = c.requires.fact_2 in
-    record {
-      fact_1 = sentence_run c.requires.fact_1 c.loop-i-test.true c.widen-end.ensures.0;
-      fact_2 = record {
-        high = omega (arith, r.high, tail_length l.hi l.i (omega (arith, r.high)));
-        low = omega (arith, r.low, tail_length l.lo l.i (omega (arith, r.low)));
-      };
-    }
+    omega (arith, c.requires.room, tail_length l.column l.i (omega (arith, c.requires.room)), sentence_past c.requires.plan c.loop-i-test.true c.sentence-w.ensures)
+
+pub overflow_add-i : goal.overflow_add-i
+overflow_add-i c = omega (arith, sentence_past c.requires.plan c.loop-i-test.true c.sentence-w.ensures)
 
 pub loop-i-smaller : goal.loop-i-smaller
-loop-i-smaller c = omega (arith, inside (goal.at.loop-i-smaller c).After-widen-end)
+loop-i-smaller c = omega (arith, sentence_past c.requires.plan c.loop-i-test.true c.sentence-w.ensures)
 
 pub loop-i-preserved : goal.loop-i-preserved
-loop-i-preserved c = λ g spans.
+loop-i-preserved c = λ g.
+    let h = g.handed in
     let i = c.loop-i-test.true in
     let l = c.loop-i in
-    let r = c.requires.fact_2 in
-    let end = c.widen-end.ensures.0 in
-    filled_more (l.invariant g spans) g.plan.handed.input spans r i (end ∙ g.horizons.last l.i i) (c.ways.ensures (sentence_run g i end))
-    (mid_is l.hi l.i (omega (arith, r.high)) _)
-    (mid_is l.lo l.i (omega (arith, r.low)) _)
-    (same_len_mid l.i (length l.hi - l.i) l.hi _ c.ways.auto.hi)
-    (same_len_mid l.i (length l.lo - l.i) l.lo _ c.ways.auto.lo)
+    let w = c.sentence-w.ensures in
+    rw (sentence_next g i w)
+    (filled_more (l.invariant g) h.input (sym h.outlined.spans ∙ c.requires.spans) c.requires.room i (h.horizons.last l.i i) w (c.ways.ensures g)
+    (mid_is l.column l.i (omega (arith, c.requires.room)) _)
+    (same_len_mid l.i (length l.column - l.i) l.column _ c.ways.auto.row))
 
 pub returns : goal.returns
-returns c = λ g spans. column_done (c.loop-i.invariant g spans) c.loop-i-test.false
+returns c = λ g. column_done (c.loop-i.invariant g) c.loop-i-test.false

@@ -1,11 +1,10 @@
-use Rattle.std.proofs.Common.{◌≡◌, ◌-◌, true}
-use Rattle.counting.specs.Steps.Plans.{Parted, plan_pattern, plan_view, unbound}
+use Rattle.std.proofs.Common.{◌-◌}
+use Rattle.counting.specs.Steps.Plans.{Plan, plan_pattern, plan_view}
 use Rattle.counting.proofs.Columns.{Filled}
 use Rattle.counting.proofs.column.whole.Given as goal
 
 abbrev pub invariant-loop-i : goal.invariant-loop-i
-invariant-loop-i l = (g : Parted l.m l.n l.reach l.low l.high l.fits l.lasts) → unbound (plan_pattern g.plan) l.n ≡ true
-    → Filled (plan_pattern g.plan) (plan_view g.plan) l.initial.hi l.initial.lo l.i l.hi l.lo
+invariant-loop-i l = (g : Plan l.tables) → Filled (plan_pattern g) (plan_view g) l.initial.column l.i l.column
 
 abbrev pub decreases-loop-i : goal.decreases-loop-i
-decreases-loop-i l = l.n - l.i
+decreases-loop-i l = l.tables.places - l.i

@@ -1,9 +1,6 @@
-use Rattle.counting.specs.Steps.Plans.{Run, run_pattern, run_view}
+use Rattle.counting.specs.Steps.Plans.{Plan, plan_pattern, plan_view}
 use Rattle.counting.proofs.Tabling.{Tabling}
 use Rattle.counting.proofs.reach.reach_all.Given as goal
 
 abbrev pub invariant-loop-j : goal.invariant-loop-j
-invariant-loop-j l = (g : Run l.m l.reach l.low l.high l.fits l.w) → Tabling (run_pattern g) (run_view g) l.w l.j l.r l.n l.next
-
-abbrev pub decreases-loop-j : goal.decreases-loop-j
-decreases-loop-j l = l.j
+invariant-loop-j l = (g : Plan l.tables) → Tabling (plan_pattern g) (plan_view g) l.w l.j l.reach l.n l.next

@@ -1,9 +1,8 @@
 use Rattle.counting.proofs.Loops.{Spreading}
-use Rattle.std.proofs.Common.{◌-◌}
 use Rattle.counting.proofs.window.spread.Given as goal
 
 abbrev pub invariant-loop-i : goal.invariant-loop-i
-invariant-loop-i l = Spreading l.fits l.at l.low l.high l.n l.m l.initial.hi l.initial.lo l.i l.hi l.lo
+invariant-loop-i l = Spreading l.fits l.low l.high l.m l.initial.row l.i l.row
 
-abbrev pub decreases-loop-i : goal.decreases-loop-i
-decreases-loop-i l = l.n - l.i
+abbrev pub invariant-loop-k : goal.invariant-loop-k
+invariant-loop-k l = Spreading l.fits l.low l.high l.m l.fn.row l.k l.row

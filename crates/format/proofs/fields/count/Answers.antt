@@ -1,16 +1,13 @@
--- The invariant: n parts end before `i`, and the rest are those from `i` on.
-use Rattle.std.proofs.Common.{◌≡◌, ℕ, length, drop, ap, arith}
-use Rattle.format.specs.Bytes.{parts}
-use Rattle.format.proofs.PartSteps.{count_end, count_here, count_later}
+-- `split` yields the parts.
+use Rattle.std.proofs.Common.{rules, List, ℕ, length, sym, ◌∙◌, ap, nat_eq}
+use Rattle.std.proofs.lemmas.Iterator.Consumers.{count_from_yields_List}
+use Rattle.std.proofs.lemmas.Iterator.Splits.{YieldsList-from_slice_split}
+use borrow.Author.Tests.{tests}
+use Rattle.format.proofs.ByteSteps.{parts_split}
 use Rattle.format.proofs.fields.count.Goals as goal
-
-pub loop-i-preserved-then-s-i : goal.loop-i-preserved-then-s-i
-loop-i-preserved-then-s-i c = omega (arith, count_here c.args.s.now c.loop-i.i c.args.sep (omega arith) c.if-s-i.true)
-
-pub loop-i-preserved : goal.loop-i-preserved
-loop-i-preserved c = omega (arith, count_later c.args.s.now c.loop-i.i c.args.sep (omega arith) c.if-s-i.false)
 
 pub returns : goal.returns
 returns c =
-    let e : c.loop-i.i ≡ length c.args.s.now = omega arith in
-    omega (arith, ap (λ (k : ℕ). length (parts (drop k c.args.s.now) c.args.sep)) e, count_end c.args.s.now c.args.sep)
+    count_from_yields_List c.split.result _ c.count.ensures.ran
+    (YieldsList-from_slice_split _ (λ b. nat_eq b c.args.sep) c.args.s.now c.split.ensures.rest c.split.ensures.done c.split.ensures.closure (λ x b q k. search (rules, tests)))
+    ∙ ap (λ (ps : List (List ℕ)). length ps) (sym (parts_split c.args.s.now c.args.sep))

@@ -1,22 +1,14 @@
--- The invariant: the k-th part is the left-th of those from `at` on.
-use Rattle.std.proofs.Common.{◌≡◌, ℕ, ◌-◌, ◌<◌, [], length, get_or, take, drop, sym, ◌∙◌, ap, arith}
-use Rattle.format.specs.Bytes.{parts}
-use Rattle.format.proofs.PartSteps.{part_first, part_more, part_none}
+-- `split` yields the parts, and `nth` takes one of them.
+use Rattle.std.proofs.Common.{rules, List, [], ℕ, get_or, unwrap_or, sym, ◌∙◌, ap, nat_eq}
+use Rattle.std.proofs.lemmas.Iterator.Consumers.{nth_from_yields_List}
+use Rattle.std.proofs.lemmas.Iterator.Splits.{YieldsList-from_slice_split}
+use Rattle.std.proofs.lemmas.Option.{unwrap_or-slice_get}
+use borrow.Author.Tests.{tests}
+use Rattle.format.proofs.ByteSteps.{parts_split, shown_or}
 use Rattle.format.proofs.fields.part.Goals as goal
-
-pub returns-then-e-s : goal.returns-then-e-s
-returns-then-e-s c =
-    let z : c.find-e.result - c.find-e.result ≡ 0 = omega arith in
-    ap (λ (n : ℕ). take n (drop c.find-e.result c.args.s.now)) z
-    ∙ sym (c.loop-left.invariant.1 ∙ part_none c.args.s.now c.loop-left.at c.find-e.result c.args.sep c.find-e.ensures.0 c.loop-left.left c.if-e-s.true (omega arith))
-
-pub loop-left-preserved : goal.loop-left-preserved
-loop-left-preserved c =
-    let h : c.find-e.result < length c.args.s.now = omega arith in
-    (omega arith, c.loop-left.invariant.1 ∙ part_more c.args.s.now c.loop-left.at c.find-e.result c.args.sep c.find-e.ensures.0 c.loop-left.left h (omega arith))
 
 pub returns : goal.returns
 returns c =
-    let z : c.loop-left.left ≡ 0 = omega arith in
-    sym (c.loop-left.invariant.1 ∙ ap (λ (n : ℕ). get_or (parts (drop c.loop-left.at c.args.s.now) c.args.sep) n []) z
-    ∙ part_first c.args.s.now c.loop-left.at c.find-e-2.result c.args.sep c.find-e-2.ensures.0 c.find-e-2.ensures.1)
+    let e = nth_from_yields_List c.nth.result _ c.args.k c.nth.ensures.ran
+    (YieldsList-from_slice_split _ (λ b. nat_eq b c.args.sep) c.args.s.now c.split.ensures.rest c.split.ensures.done c.split.ensures.closure (λ x b q k. search (rules, tests))) in
+    ap (λ r. r.now) c.unwrap_or.ensures ∙ shown_or c.nth.result _ ∙ ap (λ o. unwrap_or o []) e ∙ unwrap_or-slice_get _ c.args.k [] ∙ ap (λ (ps : List (List ℕ)). get_or ps c.args.k []) (sym (parts_split c.args.s.now c.args.sep))

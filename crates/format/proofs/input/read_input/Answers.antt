@@ -1,31 +1,29 @@
 -- Each test, and what each reader ensures, tells the definition one step more.
-use Rattle.std.proofs.Common.{◌∙◌, arith}
+use Rattle.std.proofs.Common.{rules, sym, arith}
 use Rattle.format.proofs.InputSteps.{both_read, pattern_long, pattern_refused, text_long, text_refused}
 use Rattle.format.proofs.input.read_input.Goals as goal
 
 pub returns-then-pattern-gt-FILE : goal.returns-then-pattern-gt-FILE
 returns-then-pattern-gt-FILE c =
     let d = pattern_long c.args.pattern.now c.args.text.now c.args.words.now (omega arith) in
-    (c.refuse.ensures ∙ d.answer, d.content)
+    (d.answer, d.content)
 
 pub returns-then-text-gt-FILE : goal.returns-then-text-gt-FILE
 returns-then-text-gt-FILE c =
     let d = text_long c.args.pattern.now c.args.text.now c.args.words.now (omega arith) (omega arith) in
-    (c.refuse-then-text-gt-FILE.ensures ∙ d.answer, d.content)
+    (d.answer, d.content)
 
-pub returns-in-Refused : goal.returns-in-Refused
-returns-in-Refused c =
-    let d = pattern_refused c.args.pattern.now c.args.text.now c.args.words.now (omega arith) (omega arith) c.read_pattern-read.result c.read_pattern-read.ensures c.in-Refused.why c.in-Refused.is in
-    (c.refuse-in-Refused.ensures ∙ d.answer, d.content)
+pub returns-in_err-pattern : goal.returns-in_err-pattern
+returns-in_err-pattern c =
+    let d = pattern_refused c.args.pattern.now c.args.text.now c.args.words.now (omega arith) (omega arith) _ (sym c.in_err-pattern.ensures) in
+    (rw (← (d.answer)) (search rules), d.content)
 
-pub returns-in-Refused-answer : goal.returns-in-Refused-answer
-returns-in-Refused-answer c =
-    let d = text_refused c.args.pattern.now c.args.text.now c.args.words.now (omega arith) (omega arith) c.read_pattern-read.result c.read_pattern-read.ensures c.in_default.is
-    c.read_text-answer.result c.read_text-answer.ensures.0 _ c.read_text-answer.ensures.1 c.in-Refused-answer.why c.in-Refused-answer.is in
-    (c.refuse-in-Refused-answer.ensures ∙ d.answer, d.content)
+pub returns-in_err-words : goal.returns-in_err-words
+returns-in_err-words c =
+    let d = text_refused c.args.pattern.now c.args.text.now c.args.words.now (omega arith) (omega arith) c.in_ok-pattern.pattern (sym c.in_ok-pattern.ensures) _ c.in_err-words.ensures.1 _ (sym c.in_err-words.ensures.0) in
+    (rw (← (d.answer)) (search rules), d.content)
 
-pub returns-in-Words : goal.returns-in-Words
-returns-in-Words c =
-    let d = both_read c.args.pattern.now c.args.text.now c.args.words.now (omega arith) (omega arith) c.read_pattern-read.result c.read_pattern-read.ensures c.in_default.is
-    c.read_text-answer.result c.read_text-answer.ensures.0 _ c.read_text-answer.ensures.1 c.in-Words.n c.in-Words.is in
+pub returns : goal.returns
+returns c =
+    let d = both_read c.args.pattern.now c.args.text.now c.args.words.now (omega arith) (omega arith) c.in_ok-pattern.pattern (sym c.in_ok-pattern.ensures) _ c.in_ok-words.ensures.1 c.in_ok-words.words (sym c.in_ok-words.ensures.0) in
     (d.answer, d.content)

@@ -1,38 +1,48 @@
--- The invariant: the number is v with the digits from `i` on after it.
-use Rattle.std.proofs.Common.{◌≡◌, ℕ, length, drop, sym, ◌∙◌, ap, arith}
+-- The invariant: the number is v with the digits from the place on after it.
+use Rattle.std.proofs.Common.{◌≡◌, ◌<◌, ◌*◌, ◌+◌, ◌-◌, ℕ, length, drop, get_or, refl, sym, ◌∙◌, ap, arith}
 use Rattle.format.specs.Bytes.{more}
-use Rattle.format.proofs.ByteSteps.{decimal_more, decimal_none, decimal-padded, decimal-zero, more_end, more_high, more_large, more_low, more_next}
+use borrow.Author.Tests.{eqb-false, eqb-true}
+use Rattle.format.proofs.ByteSteps.{decimal_more, decimal_none, decimal-padded, digit_is, digit_not, more_end, more_large, more_next, more_not, number_none, number_some}
 use Rattle.format.proofs.numbers.decimal.Goals as goal
+use Rattle.format.proofs.numbers.decimal.Goals.{then-is_empty-via-then-is_empty, then-is_empty-via-else-is_empty+then-s-gt1}
 
-pub returns-then-n-eq0 : goal.returns-then-n-eq0
-returns-then-n-eq0 c = decimal_none c.args.s.now c.if-n-eq0.true
+pub returns-then-is_empty : goal.returns-then-is_empty
+returns-then-is_empty c =
+    elim c.then-is_empty.branch [
+      | then-is_empty-via-then-is_empty w ↦ number_none c.args.s.now (decimal_none c.args.s.now (eqb-true _ _ (sym c.is_empty.ensures ∙ w.if-is_empty.true)))
+      | then-is_empty-via-else-is_empty+then-s-gt1 w ↦ number_none c.args.s.now (decimal-padded c.args.s.now w.if-s-gt1.true.0 w.if-s-gt1.true.1)
+    ]
 
-pub returns-then-n-eq1 : goal.returns-then-n-eq1
-returns-then-n-eq1 c = decimal-zero c.args.s.now c.if-s-eq48.true (omega arith)
+pub loop-b-init : goal.loop-b-init
+loop-b-init c =
+    let n : length c.args.s.now ≡ 0 → ⊥ = eqb-false _ _ (sym c.is_empty.ensures ∙ c.if-is_empty.false) in
+    (omega arith, decimal_more c.args.s.now (omega arith) c.if-s-gt1.either)
 
-pub returns-then-s-eq48 : goal.returns-then-s-eq48
-returns-then-s-eq48 c = decimal-padded c.args.s.now (omega arith) c.if-s-eq48.true (λ e. omega arith)
+pub returns-then-not-is_ascii_digit : goal.returns-then-not-is_ascii_digit
+returns-then-not-is_ascii_digit c = number_none c.args.s.now (c.loop-b.invariant.1 ∙ more_not c.args.s.now c.loop-b.b-index c.loop-b.v _ c.loop-b-test.true refl (digit_not _ (sym c.is_ascii_digit.ensures.value ∙ c.if-not-is_ascii_digit.true)))
 
-pub loop-i-init : goal.loop-i-init
-loop-i-init c = (omega arith, omega arith, decimal_more c.args.s.now (omega arith) c.if-s-eq48.false)
+pub returns-in_err-checked_mul : goal.returns-in_err-checked_mul
+returns-in_err-checked_mul c =
+    let d = digit_is (get_or c.args.s.now c.loop-b.b-index 0) (sym c.is_ascii_digit.ensures.value ∙ c.if-not-is_ascii_digit.false) in
+    let n : c.loop-b.v * 10 < 65536 → ⊥ = rw c.in_err-checked_mul.was at c.checked_mul.ensures in
+    c.from_residual.ensures ∙ number_none c.args.s.now (c.loop-b.invariant.1 ∙ more_large c.args.s.now c.loop-b.b-index c.loop-b.v _ c.loop-b-test.true refl d.0 d.1 (omega arith))
 
-pub returns-then-b-lt48 : goal.returns-then-b-lt48
-returns-then-b-lt48 c = sym (c.loop-i.invariant.2 ∙ more_low c.args.s.now c.loop-i.i c.loop-i.v c.wide-b.result (omega arith) c.wide-b.ensures.0 c.if-b-lt48.true)
+pub returns-in_err-v : goal.returns-in_err-v
+returns-in_err-v c =
+    let d = digit_is (get_or c.args.s.now c.loop-b.b-index 0) (sym c.is_ascii_digit.ensures.value ∙ c.if-not-is_ascii_digit.false) in
+    let m = c.in_ok-checked_mul.ensures in
+    let n = c.in_err-v.ensures in
+    c.from_residual-in_err-v.ensures ∙ number_none c.args.s.now (c.loop-b.invariant.1 ∙ more_large c.args.s.now c.loop-b.b-index c.loop-b.v _ c.loop-b-test.true refl d.0 d.1 (omega (arith, c.from.ensures)))
 
-pub returns-then-b-gt57 : goal.returns-then-b-gt57
-returns-then-b-gt57 c =
-    sym (c.loop-i.invariant.2 ∙ more_high c.args.s.now c.loop-i.i c.loop-i.v c.wide-b.result (omega arith) c.wide-b.ensures.0 (omega arith) c.if-b-gt57.true)
-
-pub returns-then-v-gt65535 : goal.returns-then-v-gt65535
-returns-then-v-gt65535 c =
-    sym (c.loop-i.invariant.2 ∙ more_large c.args.s.now c.loop-i.i c.loop-i.v c.wide-b.result (omega arith) c.wide-b.ensures.0 (omega arith) (omega arith) c.if-v-gt65535.true)
-
-pub loop-i-preserved : goal.loop-i-preserved
-loop-i-preserved c =
-    let e = more_next c.args.s.now c.loop-i.i c.loop-i.v c.wide-b.result (omega arith) c.wide-b.ensures.0 (omega arith) (omega arith) c.if-v-gt65535.false in
-    (omega arith, c.if-v-gt65535.false, c.loop-i.invariant.2 ∙ e)
+pub loop-b-preserved : goal.loop-b-preserved
+loop-b-preserved c =
+    let d = digit_is (get_or c.args.s.now c.loop-b.b-index 0) (sym c.is_ascii_digit.ensures.value ∙ c.if-not-is_ascii_digit.false) in
+    let m = c.in_ok-checked_mul.ensures in
+    let n = c.in_ok-v.ensures in
+    let e : c.loop-b.v * 10 + (get_or c.args.s.now c.loop-b.b-index 0 - 48) ≡ c.in_ok-v.v = omega (arith, c.from.ensures) in
+    (omega arith, c.loop-b.invariant.1 ∙ more_next c.args.s.now c.loop-b.b-index c.loop-b.v _ c.loop-b-test.true refl d.0 d.1 (omega arith) ∙ ap (λ (k : ℕ). more (drop (c.loop-b.b-index + 1) c.args.s.now) k) e)
 
 pub returns : goal.returns
 returns c =
-    let e : c.loop-i.i ≡ length c.args.s.now = omega arith in
-    sym (c.loop-i.invariant.2 ∙ ap (λ (k : ℕ). more (drop k c.args.s.now) c.loop-i.v) e ∙ more_end c.args.s.now c.loop-i.v)
+    let e : c.loop-b.b-index ≡ length c.args.s.now = omega arith in
+    number_some c.args.s.now c.loop-b.v (c.loop-b.invariant.1 ∙ ap (λ (k : ℕ). more (drop k c.args.s.now) c.loop-b.v) e ∙ more_end c.args.s.now c.loop-b.v) c.loop-b.invariant.0

@@ -1,44 +1,26 @@
--- Each test, and what `slot_lines` ensures, tells the definition one step more.
-use Rattle.std.proofs.Common.{drop, sym, ◌∙◌, arith}
-use Rattle.format.proofs.LineSteps.{found_closed, found_open}
-use Rattle.format.proofs.PatternSteps.{names_3_open, names_3_wrong, slots-count, slots_right, slots-wrong}
+-- Each test, and what `count_lines` ensures, tells the definition one step more.
+use Rattle.std.proofs.Common.{rules, ◌≡◌, Ok, sym, ◌∙◌}
+use borrow.Author.Tests.{tests}
+use Rattle.format.specs.Patterns.{slot_values}
+use Rattle.format.specs.Steps.ClosedLines.{laid}
+use Rattle.format.specs.Steps.ValueLines.{slot_lines}
+use Rattle.format.proofs.LineSteps.{laid_right}
+use Rattle.format.proofs.PatternSteps.{slots-count, slots_right}
 use Rattle.format.proofs.patterns.from_slot_names.Goals as goal
+use Rattle.format.proofs.patterns.from_slot_names.Goals.{In_ok-count}
 
-pub returns-then-end-next : goal.returns-then-end-next
-returns-then-end-next c =
-    let k = found_open c.line_at-line.ensures c.requires c.if-end-next.true in
-    c.refuse.ensures ∙ sym (names_3_open c.args.least c.args.most k)
-
-pub slice_bounds-names-count : goal.slice_bounds-names-count
-slice_bounds-names-count c = let k = found_closed c.line_at-line.ensures c.requires c.if-end-next.false in omega arith
-
-pub slice_bounds-names-start : goal.slice_bounds-names-start
-slice_bounds-names-start c = let k = found_closed c.line_at-line.ensures c.requires c.if-end-next.false in omega arith
-
-pub slice_bounds-names-end : goal.slice_bounds-names-end
-slice_bounds-names-end c = let k = found_closed c.line_at-line.ensures c.requires c.if-end-next.false in omega arith
-
-pub returns-then-not-slot_names : goal.returns-then-not-slot_names
-returns-then-not-slot_names c =
-    let k = found_closed c.line_at-line.ensures c.requires c.if-end-next.false in
-    c.refuse-then-not-slot_names.ensures ∙ sym (names_3_wrong c.args.least c.args.most k (sym c.slot_names.ensures ∙ c.if-not-slot_names.true))
-
-pub slot_lines-found-requires : goal.slot_lines-found-requires
-slot_lines-found-requires c = let k = found_closed c.line_at-line.ensures c.requires c.if-end-next.false in omega arith
+-- what is known past the slots' lines
+counted : (c : In_ok-count) → laid 4 (slot_lines c.columns_of-c.result c.in_ok-names.rest.now) ≡ Ok c.in_ok-count.count
+unfolding slot_lines
+counted c = sym (c.in_ok-count.ensures.value (slot_values c.columns_of-c.result) (λ l b r. search (rules, tests)))
 
 pub from_slots-requires : goal.from_slots-requires
 from_slots-requires c =
-    let k = found_closed c.line_at-line.ensures c.requires c.if-end-next.false in
-    (omega arith, slots-count c.columns_of-c.result (drop c.line_at-line.result.next c.args.s.now) c.in-Right.k (sym c.in-Right.is ∙ c.slot_lines-found.ensures.0))
+    let k = counted (goal.at.from_slots-requires c).In_ok-count in
+    slots-count c.columns_of-c.result c.in_ok-names.rest.now c.in_ok-count.count (laid_right 4 _ k)
 
-pub returns-in-Wrong : goal.returns-in-Wrong
-returns-in-Wrong c =
-    let k = found_closed c.line_at-line.ensures c.requires c.if-end-next.false in
-    c.refuse-in-Wrong.ensures
-    ∙ sym (slots-wrong c.args.least c.args.most k (sym c.slot_names.ensures ∙ c.if-not-slot_names.false) c.columns_of-c.result c.columns_of-c.ensures c.in-Wrong.k (sym c.in-Wrong.is ∙ c.slot_lines-found.ensures.0))
-
-pub returns-in-Right : goal.returns-in-Right
-returns-in-Right c =
-    let k = found_closed c.line_at-line.ensures c.requires c.if-end-next.false in
+pub returns : goal.returns
+returns c =
+    let k = counted (goal.at.returns c).In_ok-count in
     c.from_slots.ensures
-    ∙ sym (slots_right c.args.least c.args.most k (sym c.slot_names.ensures ∙ c.if-not-slot_names.false) c.columns_of-c.result c.columns_of-c.ensures c.in-Right.k (sym c.in-Right.is ∙ c.slot_lines-found.ensures.0))
+    ∙ sym (slots_right c.args.least c.args.most (rw c.in_ok-names.ensures.ok_part at c.first_line.ensures) (sym c.slot_names.ensures ∙ c.if-not-slot_names.false) c.columns_of-c.result c.columns_of-c.ensures c.in_ok-count.count k)

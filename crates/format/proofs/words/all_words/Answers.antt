@@ -6,9 +6,9 @@ use Rattle.format.proofs.words.all_words.Goals as goal
 
 pub returns-then-bare : goal.returns-then-bare
 unfolding all_numbers
-returns-then-bare c = rw (bare_parts c.args.s.now (sym c.bare.ensures ∙ c.if-bare.true))
+returns-then-bare c = rw (bare_parts c.args.s.now (sym c.bare.ensures ∙ c.if-bare.true)) c.if-bare.true
 
-pub returns : goal.returns
-returns c =
+pub returns-else-bare : goal.returns-else-bare
+returns-else-bare c =
     c.all_numbers.ensures ∙ ap (λ (l : List ℕ). all_numbers (parts l 44)) c.unmarked.ensures
     ∙ ap all_numbers (sym (listed-parts c.args.s.now (sym c.bare.ensures ∙ c.if-bare.false)))

@@ -7,7 +7,7 @@ use Rattle.format.proofs.words.count_words.Goals as goal
 pub returns-then-bare : goal.returns-then-bare
 returns-then-bare c = rw (bare_parts c.args.s.now (sym c.bare.ensures ∙ c.if-bare.true))
 
-pub returns : goal.returns
-returns c =
+pub returns-else-bare : goal.returns-else-bare
+returns-else-bare c =
     c.count.ensures ∙ ap (λ (l : List ℕ). length (parts l 44)) c.unmarked.ensures
     ∙ ap (λ (l : List (List ℕ)). length l) (sym (listed-parts c.args.s.now (sym c.bare.ensures ∙ c.if-bare.false)))

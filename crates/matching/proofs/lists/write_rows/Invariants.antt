@@ -1,11 +1,11 @@
-use Prim.Native.Nat.{◌-◌}
+use Rattle.std.proofs.Common.{◌-◌}
 use Rattle.matching.specs.Occurrence.{at}
-use Rattle.matching.specs.Steps.Turning.{viewed}
+use Rattle.matching.specs.Steps.Sides.{sight}
 use Rattle.matching.proofs.Writing.{Writing}
 use Rattle.matching.proofs.lists.write_rows.Given as goal
 
-abbrev pub invariant-loop-at : goal.invariant-loop-at
-invariant-loop-at l = Writing l.g (viewed l.mirrored l.g l.text) l.initial.list l.list l.row l.k
+abbrev pub invariant-loop-row : goal.invariant-loop-row
+invariant-loop-row l = Writing l.side.pattern.now (sight l.side) l.initial.list l.list l.row l.k
 
-abbrev pub decreases-loop-at : goal.decreases-loop-at
-decreases-loop-at l = 20001 - at l.row 0
+abbrev pub decreases-loop-row : goal.decreases-loop-row
+decreases-loop-row l = 20001 - at l.row 0

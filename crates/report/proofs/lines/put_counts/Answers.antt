@@ -8,4 +8,6 @@ pub returns : goal.returns
 returns c =
     let a = c.args in
     let count = c.put_value-next.ensures in
-    writes_value a.count a.high (a.low ∷ []) (writes_of (count.value, count.out_after)) c.put_pair.ensures
+    let halves = c.halves-high in
+    rw (← halves.ensures.high, ← halves.ensures.low)
+    (writes_value a.count halves.result.0 (halves.result.1 ∷ []) (writes_of (count.value, count.out_after)) c.put_pair.ensures)

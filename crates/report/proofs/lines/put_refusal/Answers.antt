@@ -8,4 +8,4 @@ use Rattle.report.proofs.lines.put_refusal.Goals as goal
 pub returns : goal.returns
 returns c =
     let names = c.put_bytes-next.ensures in
-    rw (← c.number.ensures, ← c.place.ensures) (writes_line refusal_names (values (c.number.result ∷ c.place.result ∷ []) ∷ []) (writes_of (names.value, names.out_after)) c.put_pair.ensures)
+    rw (← c.number.ensures, ← c.from.ensures, ← c.place.ensures) (writes_line refusal_names (values (c.from.result ∷ c.place.result ∷ []) ∷ []) (writes_of (names.value, names.out_after)) c.put_pair.ensures)

@@ -1,2 +1,0 @@
--- The contracts of the functions inside this crate.
-pub mod Keeping
