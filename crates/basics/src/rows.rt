@@ -13,6 +13,9 @@ pub fn put_row(list: &mut [u16], row: &[u16], n: usize) -> usize
     if list.len() < n {
         return 0;
     }
-    list[..n].copy_from_slice(&row[..n]);
+    // for over indices: with `copy_from_slice` the archive for C needs `memmove` from outside
+    for i in 0..n {
+        list[i] = row[i];
+    }
     1
 }

@@ -1,8 +1,8 @@
 ghost use Rattle.std.specs.Prelude.{◌≡◌};
 ghost use Rattle.pattern.specs.Patterns.{empty_pattern, with_span};
-ghost use Rattle.pattern.specs.Adding.{extended};
+ghost use Rattle.pattern.specs.Adding.{extended, pattern_after};
 ghost use Rattle.pattern.specs.Tests.{pattern_verdict, input_verdict};
-ghost use Rattle.merging.specs.Merging.{merged};
+ghost use Rattle.merging.specs.Merging.{merged, pattern_of};
 ghost use Rattle.bindings.specs.Answers.{of_verdict, pattern_or};
 
 use crate::answers::{Answer, Made};
@@ -26,7 +26,8 @@ pub extern "C" fn bedbloomer_with_slot(
     excluding: bool,
     words: &[u16],
 ) -> Made
-    ensures { result ≡ pattern_or pattern (extended pattern low high excluding words.now) }
+    ensures value { result ≡ pattern_or pattern (extended pattern low high excluding words.now) }
+    ensures made { result.pattern ≡ pattern_after pattern (extended pattern low high excluding words.now) }
 {
     Made::or(pattern.with_slot(low, high, excluding, words), pattern)
 }
@@ -50,7 +51,8 @@ pub extern "C" fn bedbloomer_check(pattern: Pattern, words: usize) -> Answer
 // Two patterns into one.
 #[unsafe(no_mangle)]
 pub extern "C" fn bedbloomer_merge(first: Pattern, second: Pattern) -> Made
-    ensures { result ≡ pattern_or empty_pattern (merged first second) }
+    ensures value { result ≡ pattern_or empty_pattern (merged first second) }
+    ensures made { result.pattern ≡ pattern_of (merged first second) }
 {
     Made::or(merge(first, second), Pattern::new())
 }

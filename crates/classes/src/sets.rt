@@ -1,6 +1,7 @@
 ghost use Rattle.std.specs.Prelude.{◌≡◌, ◌<◌};
 ghost use Rattle.classes.specs.Steps.Sets.{numbers, contains, LetterSet, EachNumber, complement, intersection, union};
 
+use basics::widen_byte;
 use std::ops::{BitAnd, BitOr, Not};
 
 // A set of class bytes, a bit for each of them, in four numbers of 64 bits: the byte c stands at bit c % 64 of number c / 64.
@@ -27,7 +28,7 @@ pub(crate) fn letter_set(bit: u8) -> ClassSet
     requires { bit < 8 }
     ensures { LetterSet bit result }
 {
-    ClassSet(LETTERS[usize::from(bit)])
+    ClassSet(LETTERS[widen_byte(bit)])
 }
 
 impl ClassSet {
@@ -36,7 +37,7 @@ impl ClassSet {
     pub(crate) fn contains(self, class: u8) -> bool
         ensures { result ≡ contains (numbers self) class }
     {
-        let c = usize::from(class);
+        let c = widen_byte(class);
         (self.0[c / 64] >> (c % 64)) % 2 == 1
     }
 

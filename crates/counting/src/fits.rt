@@ -13,8 +13,15 @@ fn tabulate_slot(slot: &Slot, text: &[u16], at: usize, fits: &mut [u8])
     requires { at + length text.now ≤ length fits.old }
     ensures { SlotFitted (takes_at slot.now text.now) (length text.now) at fits.old fits.new }
 {
+    // A copy, which no write to the table can change. Two stores of constants: with one store of a number made of the answer the loop took 2
+    // to 5 times as long.
+    let slot = *slot;
     for (i, word) in text.iter().enumerate() {
-        fits[at + i] = u8::from(slot.takes(*word));
+        if slot.takes(*word) {
+            fits[at + i] = 1;
+        } else {
+            fits[at + i] = 0;
+        }
     }
 }
 

@@ -3,6 +3,7 @@ ghost use Rattle.pattern.specs.Accepted.{Accepted};
 ghost use Rattle.matching.specs.Spans.{distance};
 ghost use Rattle.counting.specs.Steps.Plans.{gap_at, Gaps, Outlined};
 
+use basics::smaller;
 use pattern::Pattern;
 
 // The gap before a slot, at its least and at its widest.
@@ -51,7 +52,7 @@ fn unbound(least: usize, most: usize, near: usize, far: usize, n: usize) -> bool
     requires { (near ≤ 960) × (far ≤ 960) }
     ensures { result ≡ (nat_le least (near + 1) && nat_le (min (far + 1) n) most) }
 {
-    least <= near + 1 && (far + 1).min(n) <= most
+    least <= near + 1 && smaller(far + 1, n) <= most
 }
 
 // A pattern as the runs over n places are handed it.

@@ -8,6 +8,7 @@ use crate::fits::tabulate;
 use crate::gaps::Outline;
 use crate::sentences::horizons;
 use crate::window::Window;
+use basics::widen;
 use pattern::Pattern;
 
 // A pattern and a text, as the runs over the text's places are lent them.
@@ -21,9 +22,9 @@ pub(crate) struct Tables<'a> {
     // the pattern's gaps and spans
     pub outline: Outline,
     // which slot fits which place, 20000 entries a slot
-    pub fits: &'a [u8],
+    pub fits: &'a [u8; 320000],
     // how far a row from each place can go
-    pub lasts: &'a [u16],
+    pub lasts: &'a [u16; 20000],
 }
 
 impl<'a> Tables<'a> {
@@ -56,8 +57,11 @@ impl<'a> Tables<'a> {
         requires { j * 20000 + first + n ≤ length self.now.fits.now }
         ensures { result.now ≡ part self.now.fits.now (j * 20000 + first) n }
     {
+        // as a slice, of which a part can be lent
+        let table = self.fits;
+        let fits: &[u8] = table;
         let at = j * 20000 + first;
-        &self.fits[at..at + n]
+        &fits[at..at + n]
     }
 
     // The places from an index on to where its sentence ends.
@@ -66,7 +70,7 @@ impl<'a> Tables<'a> {
         requires inside { i < self.now.places }
         ensures { result ≡ sentence_at i (slice_index self.now.lasts.now i) }
     {
-        let places = usize::from(self.lasts[i]) - i;
+        let places = widen(self.lasts[i]) - i;
         Window {
             first: i,
             places,
@@ -81,7 +85,7 @@ impl<'a> Tables<'a> {
         requires inside { i < self.now.places }
         ensures { result ≡ start_at i (min self.now.outline.span (slice_index self.now.lasts.now i - i)) (i + self.now.outline.least) }
     {
-        let rest = usize::from(self.lasts[i]) - i;
+        let rest = widen(self.lasts[i]) - i;
         Window {
             first: i,
             places: self.outline.span.min(rest),

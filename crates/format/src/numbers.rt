@@ -9,14 +9,18 @@ pub(crate) fn decimal(s: &[u8]) -> Option<u16>
     if s.is_empty() || (s[0] == b'0' && s.len() > 1) {
         return None;
     }
-    let mut v: u16 = 0;
+    // wider than the answer: tried with `checked_mul` and `checked_add`, and a line of five digits took half as many instructions again
+    let mut v: u32 = 0;
     for b in s {
         if !b.is_ascii_digit() {
             return None;
         }
-        v = v.checked_mul(10)?.checked_add(u16::from(*b - b'0'))?;
+        v = v * 10 + u32::from(*b - b'0');
+        if 65535 < v {
+            return None;
+        }
     }
-    Some(v)
+    Some(v as u16)
 }
 
 // Whether the bytes show a number.

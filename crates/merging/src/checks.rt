@@ -2,7 +2,7 @@
 ghost use Rattle.std.specs.Prelude.{◌≡◌};
 ghost use Rattle.merging.specs.Merging.{remains, shared_verdict, room_verdict};
 
-use pattern::{Pattern, Refusal, Slot};
+use pattern::{Pattern, Refusal, Slot, SlotTest};
 
 // Whether some word is left to the slot, and some number to its gap.
 #[tactic(auto, unfolding(crate::specs::Merging::remains))]
@@ -13,22 +13,32 @@ fn remains(slot: Slot) -> bool
 }
 
 // Test 18 of a slot; its number doesn't matter.
-pub(crate) fn shared_verdict(_k: usize, slot: Slot) -> Result<(), Refusal>
-    ensures { result ≡ shared_verdict _k slot }
-{
-    if remains(slot) {
-        Ok(())
-    } else {
-        Err(Refusal::NothingShared)
+#[derive(Clone, Copy)]
+pub(crate) struct Shared;
+
+impl SlotTest for Shared {
+    ghost told = { λ _. shared_verdict };
+
+    fn test(&self, _k: usize, slot: Slot) -> Result<(), Refusal> {
+        if remains(slot) {
+            Ok(())
+        } else {
+            Err(Refusal::NothingShared)
+        }
     }
 }
 
 // Test 19 of a slot; its number doesn't matter.
-pub(crate) fn room_verdict(_k: usize, slot: Slot) -> Result<(), Refusal>
-    ensures { result ≡ room_verdict _k slot }
-{
-    if Pattern::WORDS < slot.count {
-        return Err(Refusal::TooManyWords);
+#[derive(Clone, Copy)]
+pub(crate) struct Room;
+
+impl SlotTest for Room {
+    ghost told = { λ _. room_verdict };
+
+    fn test(&self, _k: usize, slot: Slot) -> Result<(), Refusal> {
+        if Pattern::WORDS < slot.count {
+            return Err(Refusal::TooManyWords);
+        }
+        Ok(())
     }
-    Ok(())
 }

@@ -9,7 +9,7 @@ ghost use Rattle.std.specs.Prelude.{◌≡◌, ◌≤◌};
 ghost use Rattle.merging.specs.Merging.{merged_pattern, result_verdict, answered, merged};
 ghost use Rattle.merging.specs.Steps.Inputs.{Mergeable};
 
-use checks::{room_verdict, shared_verdict};
+use checks::{Room, Shared};
 use pattern::{Pattern, Refusal};
 use slots::merged_slots;
 
@@ -20,11 +20,11 @@ fn judge(pattern: Pattern) -> Result<Pattern, Refusal>
     requires { pattern.count ≤ 16 }
     ensures { result ≡ answered (result_verdict pattern) pattern }
 {
-    pattern.check_slots(shared_verdict)?;
+    pattern.check_slots(&Shared)?;
     if pattern.most < pattern.least {
         return Err(Refusal::NothingShared);
     }
-    pattern.check_slots(room_verdict)?;
+    pattern.check_slots(&Room)?;
     Ok(pattern)
 }
 

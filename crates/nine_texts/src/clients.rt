@@ -1,6 +1,6 @@
 // The cursors of several clients, on text 1.
 use crate::cases::padded;
-use crate::score::{Score, number_of};
+use crate::score::Score;
 use crate::searches::{found_number, found_places};
 use crate::tables::{Asked, Call, Case, FROM_499, FROM_FRESH};
 use cursors::{Client, Cursors};
@@ -54,11 +54,7 @@ fn check_calls(
     for asked in calls {
         let answer = call(&mut cursors, *asked, pattern, case.words);
         checked = checked
-            .number(
-                rt,
-                number_of(asked.answer.map(u64::from)),
-                found_number(answer),
-            )?
+            .number(rt, asked.answer, found_number(answer))?
             .list(rt, &given(case, asked.given), &found_places(answer))?;
         checked = check_numbers(rt, checked, *asked, &cursors)?;
     }

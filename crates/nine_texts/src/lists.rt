@@ -67,18 +67,19 @@ fn tried<F: Fn(Pattern, &[u16], &mut [u16]) -> Result<usize, Refusal>>(
     Called { answer, list, room }
 }
 
-// Checks what a call answers and leaves.
+// Checks what a call answers and leaves. The answer and its place are plain numbers: of a `Refusal` the library itself would say them.
 fn check_called(
     rt: &impl Print,
     score: Score,
-    answer: Result<usize, Refusal>,
+    number: u64,
+    place: u64,
     list: &[u16],
     got: Called,
 ) -> io::Result<Score> {
     let left = got.list;
     let answered = score
-        .number(rt, rows_number(answer), rows_number(got.answer))?
-        .number(rt, rows_place(answer), rows_place(got.answer))?;
+        .number(rt, number, rows_number(got.answer))?
+        .number(rt, place, rows_place(got.answer))?;
     answered.list(rt, first(list, got.room), first(&left, got.room))
 }
 
@@ -101,13 +102,12 @@ fn check_list<F: Fn(Pattern, &[u16], &mut [u16]) -> Result<usize, Refusal>>(
     let long = tried(call, pattern, case.words, wanted.size + 1);
     let answered = rows_number(long.answer);
     print!(rt; "{name}{answered}")?;
-    let written = check_called(rt, score, Ok(rows.len()), &list, long)?;
+    let written = check_called(rt, score, rows.len() as u64, 0, &list, long)?;
     if wanted.size == 0 {
         return Ok(written);
     }
     let short = tried(call, pattern, case.words, wanted.size - 1);
-    let refused = Err(Refusal::ListLength(place));
-    check_called(rt, written, refused, &[9u16; 40], short)
+    check_called(rt, written, 100008, place as u64, &[9u16; 40], short)
 }
 
 // The count alone.

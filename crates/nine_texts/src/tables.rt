@@ -2,8 +2,6 @@
 // What document 01 leaves out is worked out from its definitions by trying every row: the occurrences of texts 2 to 5, the back lists of 2 and 5,
 // both lists of 6.
 
-use pattern::Refusal;
-
 // Rows of places.
 pub type Rows = &'static [&'static [u16]];
 
@@ -148,13 +146,14 @@ pub enum Asked {
     Rewind,
 }
 
-// A call of the cursors on text 1: which, for which client; whether it answers with an occurrence, or why it is refused; the row of the front
-// list that is given, counted from 0; and the number that each of the four was served then.
+// A call of the cursors on text 1: which, for which client; the answer as a number, 1 for an occurrence, 0 for none or for a rewind, and 100,000
+// and the refusal's number; the row of the front list that is given, counted from 0; and the number that each of the four was served then.
+// (The answer is no `Result`: of a `Refusal` the library would say the number that it is checked for.)
 #[derive(Clone, Copy)]
 pub struct Call {
     pub asked: Asked,
     pub client: usize,
-    pub answer: Result<bool, Refusal>,
+    pub answer: u64,
     pub given: Option<usize>,
     pub served: [usize; 4],
 }
@@ -164,84 +163,84 @@ pub(crate) const FROM_FRESH: [Call; 12] = [
     Call {
         asked: Asked::Next,
         client: 1,
-        answer: Ok(true),
+        answer: 1,
         given: Some(0),
         served: [1, 0, 0, 0],
     },
     Call {
         asked: Asked::Next,
         client: 2,
-        answer: Ok(true),
+        answer: 1,
         given: Some(0),
         served: [1, 1, 0, 0],
     },
     Call {
         asked: Asked::Next,
         client: 1,
-        answer: Ok(true),
+        answer: 1,
         given: Some(1),
         served: [2, 1, 0, 0],
     },
     Call {
         asked: Asked::Next,
         client: 1,
-        answer: Ok(false),
+        answer: 0,
         given: None,
         served: [2, 1, 0, 0],
     },
     Call {
         asked: Asked::Next,
         client: 2,
-        answer: Ok(true),
+        answer: 1,
         given: Some(1),
         served: [2, 2, 0, 0],
     },
     Call {
         asked: Asked::Rewind,
         client: 1,
-        answer: Ok(false),
+        answer: 0,
         given: None,
         served: [2, 2, 0, 0],
     },
     Call {
         asked: Asked::Next,
         client: 2,
-        answer: Ok(false),
+        answer: 0,
         given: None,
         served: [2, 2, 0, 0],
     },
     Call {
         asked: Asked::Next,
         client: 1,
-        answer: Ok(true),
+        answer: 1,
         given: Some(0),
         served: [3, 2, 0, 0],
     },
     Call {
         asked: Asked::Next,
         client: 4,
-        answer: Ok(true),
+        answer: 1,
         given: Some(0),
         served: [3, 2, 0, 1],
     },
     Call {
         asked: Asked::Next,
         client: 5,
-        answer: Err(Refusal::Client),
+        answer: 100014,
         given: None,
         served: [3, 2, 0, 1],
     },
     Call {
         asked: Asked::Next,
         client: 0,
-        answer: Err(Refusal::Client),
+        answer: 100014,
         given: None,
         served: [3, 2, 0, 1],
     },
     Call {
         asked: Asked::Rewind,
         client: 5,
-        answer: Err(Refusal::Client),
+        answer: 100014,
         given: None,
         served: [3, 2, 0, 1],
     },
@@ -252,49 +251,49 @@ pub(crate) const FROM_499: [Call; 7] = [
     Call {
         asked: Asked::Next,
         client: 3,
-        answer: Ok(true),
+        answer: 1,
         given: Some(0),
         served: [0, 0, 500, 0],
     },
     Call {
         asked: Asked::Next,
         client: 3,
-        answer: Err(Refusal::Served),
+        answer: 100015,
         given: None,
         served: [0, 0, 500, 0],
     },
     Call {
         asked: Asked::Next,
         client: 5,
-        answer: Err(Refusal::Client),
+        answer: 100014,
         given: None,
         served: [0, 0, 500, 0],
     },
     Call {
         asked: Asked::Rewind,
         client: 3,
-        answer: Ok(false),
+        answer: 0,
         given: None,
         served: [0, 0, 500, 0],
     },
     Call {
         asked: Asked::Next,
         client: 3,
-        answer: Err(Refusal::Served),
+        answer: 100015,
         given: None,
         served: [0, 0, 500, 0],
     },
     Call {
         asked: Asked::Next,
         client: 1,
-        answer: Ok(true),
+        answer: 1,
         given: Some(0),
         served: [1, 0, 500, 0],
     },
     Call {
         asked: Asked::Next,
         client: 4,
-        answer: Ok(true),
+        answer: 1,
         given: Some(0),
         served: [1, 0, 500, 1],
     },

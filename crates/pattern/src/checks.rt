@@ -1,8 +1,19 @@
 // The tests of a slot and of the span limits.
-ghost use Rattle.std.specs.Prelude.{◌≡◌};
-ghost use Rattle.pattern.specs.Tests.{widest_gap, fewest_words, slot_verdict, order_verdict, span_verdict};
+ghost use Rattle.std.specs.Prelude.{◌≡◌, ℕ};
+ghost use Rattle.pattern.specs.declared.slot.Slot.{Slot};
+ghost use Rattle.pattern.specs.Tests.{Verdict, widest_gap, fewest_words, slot_verdict, order_verdict, span_verdict};
 
 use crate::{Pattern, Refusal, Slot};
+
+// A test of a slot with its number, which may be made of any slot with any number.
+pub trait SlotTest {
+    // What it answers.
+    ghost told: { Self → ℕ → Slot → Verdict };
+
+    // The test.
+    fn test(&self, k: usize, slot: Slot) -> Result<(), Refusal>
+        ensures { result ≡ told self.now k slot };
+}
 
 // The widest gap that may stand before slot number k.
 fn widest(k: usize) -> u16
@@ -42,14 +53,31 @@ pub(crate) fn slot_verdict(k: usize, slot: Slot) -> Result<(), Refusal>
     Ok(())
 }
 
-// Test 16 of slot number k.
-pub(crate) fn order_verdict(k: usize, slot: Slot) -> Result<(), Refusal>
-    ensures { result ≡ order_verdict k slot }
-{
-    if slot.rises() {
-        Ok(())
-    } else {
-        Err(Refusal::WordOrder(k))
+// Tests 2, 3 and 4 of a slot.
+#[derive(Clone, Copy)]
+pub(crate) struct Limits;
+
+impl SlotTest for Limits {
+    ghost told = { λ _. slot_verdict };
+
+    fn test(&self, k: usize, slot: Slot) -> Result<(), Refusal> {
+        slot_verdict(k, slot)
+    }
+}
+
+// Test 16 of a slot.
+#[derive(Clone, Copy)]
+pub(crate) struct Order;
+
+impl SlotTest for Order {
+    ghost told = { λ _. order_verdict };
+
+    fn test(&self, k: usize, slot: Slot) -> Result<(), Refusal> {
+        if slot.rises() {
+            Ok(())
+        } else {
+            Err(Refusal::WordOrder(k))
+        }
     }
 }
 

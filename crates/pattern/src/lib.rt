@@ -1,18 +1,18 @@
 // Patterns with gap and length constraints, the limits they keep to, and why one is refused.
 #![tactic(auto)]
 
-ghost use Rattle.std.specs.Prelude.{◌≡◌, ℕ, ◌≤◌};
+ghost use Rattle.std.specs.Prelude.{◌≡◌, min};
 ghost use Rattle.pattern.specs.Patterns.{empty_pattern, with_span};
-ghost use Rattle.pattern.specs.Tests.{Verdict, slots_verdict, pattern_verdict, input_verdict};
+ghost use Rattle.pattern.specs.Tests.{slots_verdict, pattern_verdict, input_verdict};
 ghost use Rattle.pattern.specs.Adding.{extended};
-ghost use Rattle.pattern.specs.declared.slot.Slot.{Slot};
 
 mod checks;
 mod refusal;
 mod slot;
 mod words;
 
-use checks::{order_verdict, slot_verdict, span_verdict};
+pub use checks::SlotTest;
+use checks::{Limits, Order, slot_verdict, span_verdict};
 pub use refusal::Refusal;
 pub use slot::Slot;
 
@@ -102,17 +102,13 @@ impl Pattern {
     }
 
     // A test of each slot with its number, from the first slot on, up to the first that is refused.
-    pub fn check_slots<F: Fn(usize, Slot) -> Result<(), Refusal>>(
-        &self,
-        test: F,
-    ) -> Result<(), Refusal>
-        requires { (k : ℕ) (s : Slot) → F.pre test k s }
-        ensures { (told : ℕ → Slot → Verdict) → ((k : ℕ) (s : Slot) (r : Verdict) → F.post test k s r → r ≡ told k s) → self.now.count ≤ 16 → result ≡ slots_verdict told self.now 0 self.now.count }
+    pub fn check_slots<T: SlotTest>(&self, test: &T) -> Result<(), Refusal>
+        ensures { result ≡ slots_verdict (T.told test.now) self.now 0 (min self.now.count 16) }
     {
         let count = self.count.min(Pattern::SLOTS);
         // for over indices: the test is given each slot's number, so an iterator over the slots would need them too and be no plainer
         for j in 0..count {
-            test(j + 1, self.slots[j])?;
+            test.test(j + 1, self.slots[j])?;
         }
         Ok(())
     }
@@ -128,9 +124,9 @@ impl Pattern {
         if Pattern::SLOTS < self.count {
             return Err(Refusal::SlotCount);
         }
-        self.check_slots(slot_verdict)?;
+        self.check_slots(&Limits)?;
         span_verdict(self.least, self.most)?;
-        self.check_slots(order_verdict)
+        self.check_slots(&Order)
     }
 
     // The first of the tests 1 to 5, 16 and 6 that the pattern and a text of so many words fail.

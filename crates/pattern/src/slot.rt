@@ -4,6 +4,7 @@ ghost use Rattle.pattern.specs.Numbers.{Numbers, mark_number, numbers_take};
 ghost use Rattle.pattern.specs.Words.{rises, canonical};
 
 use crate::words::{rises, sorted};
+use basics::{smaller, widen};
 
 // One element of a pattern (document 01: slot): the words it lists, the gap before it, and whether it takes these or any but these. C has
 // the same struct, so the number of words stands beside them.
@@ -52,7 +53,7 @@ fn mark_number(excluding: bool) -> u16
 fn stated(count: usize) -> u16
     ensures { result ≡ min count 8 }
 {
-    count.min(8) as u16
+    smaller(count, 8) as u16
 }
 
 // The first eight of the words, and 0 in the entries that they leave.
@@ -155,7 +156,7 @@ impl Slot {
         if numbers.len() < 12 {
             return false;
         }
-        let listed = lists(&numbers[4..12], usize::from(numbers[3]), word);
+        let listed = lists(&numbers[4..12], widen(numbers[3]), word);
         taken(numbers[2] == 1, word, listed)
     }
 }

@@ -3,4 +3,4 @@ use Rattle.classes.proofs.ClassSets.{letter-rows}
 use Rattle.classes.proofs.sets.letter_set.Goals as goal
 
 pub returns : goal.returns
-returns c = letter-rows c.from.result c.args.bit c.from.ensures c.requires
+returns c = letter-rows c.widen_byte.result c.args.bit c.widen_byte.ensures.0 c.requires

@@ -1,5 +1,5 @@
 -- The invariant: the number is v with the digits from the place on after it.
-use Rattle.std.proofs.Common.{◌≡◌, ◌<◌, ◌*◌, ◌+◌, ◌-◌, ℕ, length, drop, get_or, refl, sym, ◌∙◌, ap, arith}
+use Rattle.std.proofs.Common.{◌≡◌, ◌*◌, ◌+◌, ◌-◌, ℕ, length, drop, get_or, refl, sym, ◌∙◌, ap, arith}
 use Rattle.format.specs.Bytes.{more}
 use borrow.Author.Tests.{eqb-false, eqb-true}
 use Rattle.format.proofs.ByteSteps.{decimal_more, decimal_none, decimal-padded, digit_is, digit_not, more_end, more_large, more_next, more_not, number_none, number_some}
@@ -21,26 +21,16 @@ loop-b-init c =
 pub returns-then-not-is_ascii_digit : goal.returns-then-not-is_ascii_digit
 returns-then-not-is_ascii_digit c = number_none c.args.s.now (c.loop-b.invariant.1 ∙ more_not c.args.s.now c.loop-b.b-index c.loop-b.v _ c.loop-b-test.true refl (digit_not _ (sym c.is_ascii_digit.ensures.value ∙ c.if-not-is_ascii_digit.true)))
 
-pub returns-in_err-checked_mul : goal.returns-in_err-checked_mul
-returns-in_err-checked_mul c =
+pub returns-then-v-gt65535 : goal.returns-then-v-gt65535
+returns-then-v-gt65535 c =
     let d = digit_is (get_or c.args.s.now c.loop-b.b-index 0) (sym c.is_ascii_digit.ensures.value ∙ c.if-not-is_ascii_digit.false) in
-    let n : c.loop-b.v * 10 < 65536 → ⊥ = rw c.in_err-checked_mul.was at c.checked_mul.ensures in
-    c.from_residual.ensures ∙ number_none c.args.s.now (c.loop-b.invariant.1 ∙ more_large c.args.s.now c.loop-b.b-index c.loop-b.v _ c.loop-b-test.true refl d.0 d.1 (omega arith))
-
-pub returns-in_err-v : goal.returns-in_err-v
-returns-in_err-v c =
-    let d = digit_is (get_or c.args.s.now c.loop-b.b-index 0) (sym c.is_ascii_digit.ensures.value ∙ c.if-not-is_ascii_digit.false) in
-    let m = c.in_ok-checked_mul.ensures in
-    let n = c.in_err-v.ensures in
-    c.from_residual-in_err-v.ensures ∙ number_none c.args.s.now (c.loop-b.invariant.1 ∙ more_large c.args.s.now c.loop-b.b-index c.loop-b.v _ c.loop-b-test.true refl d.0 d.1 (omega (arith, c.from.ensures)))
+    number_none c.args.s.now (c.loop-b.invariant.1 ∙ more_large c.args.s.now c.loop-b.b-index c.loop-b.v _ c.loop-b-test.true refl d.0 d.1 (omega (arith, c.from.ensures)))
 
 pub loop-b-preserved : goal.loop-b-preserved
 loop-b-preserved c =
     let d = digit_is (get_or c.args.s.now c.loop-b.b-index 0) (sym c.is_ascii_digit.ensures.value ∙ c.if-not-is_ascii_digit.false) in
-    let m = c.in_ok-checked_mul.ensures in
-    let n = c.in_ok-v.ensures in
-    let e : c.loop-b.v * 10 + (get_or c.args.s.now c.loop-b.b-index 0 - 48) ≡ c.in_ok-v.v = omega (arith, c.from.ensures) in
-    (omega arith, c.loop-b.invariant.1 ∙ more_next c.args.s.now c.loop-b.b-index c.loop-b.v _ c.loop-b-test.true refl d.0 d.1 (omega arith) ∙ ap (λ (k : ℕ). more (drop (c.loop-b.b-index + 1) c.args.s.now) k) e)
+    let e : c.loop-b.v * 10 + (get_or c.args.s.now c.loop-b.b-index 0 - 48) ≡ c.loop-b.v * 10 + c.from.result = omega (arith, c.from.ensures) in
+    (omega arith, c.loop-b.invariant.1 ∙ more_next c.args.s.now c.loop-b.b-index c.loop-b.v _ c.loop-b-test.true refl d.0 d.1 (omega (arith, c.from.ensures)) ∙ ap (λ (k : ℕ). more (drop (c.loop-b.b-index + 1) c.args.s.now) k) e)
 
 pub returns : goal.returns
 returns c =
