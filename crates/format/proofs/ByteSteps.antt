@@ -1,12 +1,14 @@
 -- The definitions on bytes in std's words, which the contracts of its iterators and of `==` say; and a number, digit by digit. Assumes nothing.
 use lib.Seq.{drop-length}
-use Rattle.std.proofs.Common.{ℕ, suc, ◌+◌, ◌-◌, ◌*◌, ◌≤◌, ◌<◌, ◌⊎◌, Bool, true, false, cond, not, ◌&&◌, List, [], ◌∷◌, Option, Some, None, Bor, ◌≡◌, refl, sym, ◌∙◌, ap, length, get_or, drop, eqb, add-one, drop-cons, eq-eqb, le-leb, le-ltb, lt-ltb, ne_eqb, arith}
+use Rattle.std.proofs.Common.{ℕ, suc, ◌+◌, ◌-◌, ◌*◌, ◌≤◌, ◌<◌, ◌⊎◌, Bool, true, false, cond, not, ◌&&◌, List, [], ◌∷◌, Option, Some, None, Bor, ◌≡◌, refl, sym, ◌∙◌, ap, length, get_or, drop, eqb, ltb, add-one, drop-cons, eq-eqb, le-leb, le-ltb, lt-ltb, ne_eqb, arith}
+use borrow.Author.Tests.{ltb-false, ltb-true}
 use Rattle.std.specs.Char.{is_ascii_digit}
 use Rattle.std.proofs.lemmas.Bool.Decides.{nat_tests}
 use Rattle.std.specs.Option.{option_map, unwrap_or}
+use Rattle.std.proofs.lemmas.Option.{cond_some, none-some}
 use mathlib.Core.Logic.{inl, inr}
 use Rattle.std.specs.Cmp.Lexicographic.{pointwise}
-use Rattle.std.specs.List.{list_all, onto_first, prefix_len, slice_split}
+use Rattle.std.specs.List.{list_all, onto_first, position_or_len, prefix_len, slice_split}
 use Rattle.std.proofs.lemmas.List.Splits.{length-slice_split}
 use Rattle.basics.specs.Choice.{pick}
 use Rattle.format.specs.Bytes.{all_numbers, cut, decimal, is_number, more, number, on_first, parts, same, value}
@@ -23,18 +25,27 @@ cut_within (b ∷ t) sep = go (eqb b sep) (cut_within t sep)
     go true h = omega arith
     go false h = omega arith
 
--- at a place
-pub cut_here : (s : List ℕ) (i sep : ℕ) → i < length s → get_or s i 0 ≡ sep → cut (drop i s) sep ≡ 0
+pub cut_position : (s : List ℕ) (sep : ℕ) → cut s sep ≡ position_or_len (λ b. eqb b sep) s
 unfolding cut
-cut_here s i sep h e = rw (drop-cons s i 0) (simp (eq-eqb _ _ e))
+cut_position [] sep = refl
+cut_position (b ∷ s) sep = go (eqb b sep) (cut_position s sep)
+  where
+    go : (x : Bool) → cut s sep ≡ position_or_len (λ b. eqb b sep) s → pick x 0 (suc (cut s sep)) ≡ cond (not x) (1 + position_or_len (λ b. eqb b sep) s) 0
+    go true e = refl
+    go false e = omega arith
 
-pub cut_later : (s : List ℕ) (i sep : ℕ) → i < length s → (get_or s i 0 ≡ sep → ⊥) → cut (drop i s) sep ≡ suc (cut (drop (i + 1) s) sep)
-unfolding cut
-cut_later s i sep h e = rw (add-one, drop-cons s i 0) (simp (ne_eqb _ _ e))
+pub found_some : (s : List ℕ) (sep k : ℕ) → Some k ≡ cond (ltb (position_or_len (λ b. eqb b sep) s) (length s)) (Some (position_or_len (λ b. eqb b sep) s)) None → (k ≡ cut s sep) × (k < length s)
+found_some s sep k e =
+    let n = position_or_len (λ b. eqb b sep) s in
+    let h = cond_some (ltb n (length s)) n k (sym e) in
+    (sym h.1 ∙ sym (cut_position s sep), omega (arith, ltb-true n (length s) h.0))
 
-pub cut_end : (s : List ℕ) (sep : ℕ) → cut (drop (length s) s) sep ≡ 0
-unfolding cut
-cut_end s sep = rw (drop-length s)
+pub found_none : (s : List ℕ) (sep : ℕ) → None ≡ cond (ltb (position_or_len (λ b. eqb b sep) s) (length s)) (Some (position_or_len (λ b. eqb b sep) s)) None → length s ≡ cut s sep
+found_none s sep e = go (ltb (position_or_len (λ b. eqb b sep) s) (length s)) refl e
+  where
+    go : (x : Bool) → ltb (position_or_len (λ b. eqb b sep) s) (length s) ≡ x → None ≡ cond x (Some (position_or_len (λ b. eqb b sep) s)) None → length s ≡ cut s sep
+    go true q n = absurd (none-some _ n)
+    go false q n = omega (arith, cut_position s sep, ltb-false (position_or_len (λ b. eqb b sep) s) (length s) q, cut_within s sep)
 
 -- a part that was taken, or nothing
 pub shown_or : (o : Option (Bor (List ℕ))) (d : Bor (List ℕ)) → (unwrap_or o d).now ≡ unwrap_or (option_map (λ x. x.now) o) d.now

@@ -6,11 +6,6 @@ pub(crate) fn find(s: &[u8], at: usize, sep: u8) -> Option<usize>
     requires { at ≤ length s.now }
     ensures { MatchOption result (length s.now ≡ at + cut (drop at s.now) sep) (λ e. (e ≡ at + cut (drop at s.now) sep) × (e < length s.now)) }
 {
-    // for: with `position` reading a text took longer
-    for i in at..s.len() {
-        if s[i] == sep {
-            return Some(i);
-        }
-    }
-    None
+    let k = s[at..].iter().position(|b| *b == sep)?;
+    Some(at + k)
 }

@@ -9,7 +9,7 @@ pub(crate) fn decimal(s: &[u8]) -> Option<u16>
     if s.is_empty() || (s[0] == b'0' && s.len() > 1) {
         return None;
     }
-    // wider than the answer: tried with `checked_mul` and `checked_add`, and a line of five digits took half as many instructions again
+    // wider than the answer: with `checked_mul` and `checked_add` a text of five-digit words took half as long again
     let mut v: u32 = 0;
     for b in s {
         if !b.is_ascii_digit() {

@@ -1,16 +1,20 @@
--- The invariant: what is found from `at` is what is found from `i`.
-use Rattle.std.proofs.Common.{◌≡◌, ℕ, length, drop, ap, arith}
-use Rattle.format.specs.Bytes.{cut}
-use Rattle.format.proofs.ByteSteps.{cut_end, cut_here, cut_later}
+-- `position` finds the first place at which `cut` cuts.
+use Rattle.std.proofs.Common.{rules, drop, length-drop, nat_eq, arith, sym, ◌∙◌}
+use Rattle.std.proofs.lemmas.Iterator.{YieldsList-from_slice}
+use Rattle.std.proofs.lemmas.Iterator.Search.{position_from_yields_List}
+use borrow.Author.Tests.{tests}
+use Rattle.basics.specs.Laws.Lending.{tail_is}
+use Rattle.format.proofs.ByteSteps.{found_none, found_some}
 use Rattle.format.proofs.bytes.find.Goals as goal
 
-pub returns-then-s-i : goal.returns-then-s-i
-returns-then-s-i c = (omega (arith, cut_here c.args.s.now c.loop-i.i c.args.sep (omega arith) c.if-s-i.true), omega arith)
-
-pub loop-i-preserved : goal.loop-i-preserved
-loop-i-preserved c = omega (arith, cut_later c.args.s.now c.loop-i.i c.args.sep (omega arith) c.if-s-i.false)
+pub returns-in_err-k : goal.returns-in_err-k
+returns-in_err-k c =
+    let e = position_from_yields_List (λ b. nat_eq b c.args.sep) _ _ c.position.result c.position.ensures.ran (YieldsList-from_slice (drop c.args.at c.args.s.now) (c.iter.ensures.rest ∙ tail_is c.args.s.now c.args.at c.requires)) (λ x b q k. search (rules, tests)) in
+    let f = found_none (drop c.args.at c.args.s.now) c.args.sep (sym c.in_err-k.was ∙ e) in
+    rw c.from_residual.ensures (omega (arith, f, length-drop c.args.at c.args.s.now))
 
 pub returns : goal.returns
 returns c =
-    let e : c.loop-i.i ≡ length c.args.s.now = omega arith in
-    omega (arith, ap (λ (k : ℕ). cut (drop k c.args.s.now) c.args.sep) e, cut_end c.args.s.now c.args.sep)
+    let e = position_from_yields_List (λ b. nat_eq b c.args.sep) _ _ c.position.result c.position.ensures.ran (YieldsList-from_slice (drop c.args.at c.args.s.now) (c.iter.ensures.rest ∙ tail_is c.args.s.now c.args.at c.requires)) (λ x b q k. search (rules, tests)) in
+    let f = found_some (drop c.args.at c.args.s.now) c.args.sep c.in_ok-k.k (sym c.in_ok-k.was ∙ e) in
+    (omega (arith, f.0), omega (arith, f.1, length-drop c.args.at c.args.s.now))
