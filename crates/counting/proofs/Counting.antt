@@ -1,5 +1,5 @@
 -- What the rows of numbers are: the ways on from each place of the window. Assumes nothing.
-use Rattle.std.proofs.Common.{◌≡◌, ℕ, zero, suc, ◌+◌, ◌-◌, ◌*◌, ◌<◌, ◌≤◌, min, List, length, get_or, take, drop, sym, ap, ◌∙◌, arith, le-ltb, lt-ltb, length-take, length-drop, get_or-take, get_or-drop}
+use Rattle.std.proofs.Common.{◌≡◌, ℕ, zero, suc, ◌+◌, ◌-◌, ◌*◌, ◌^◌, ◌<◌, ◌≤◌, min, Bool, true, false, ltb, List, length, get_or, take, drop, set, refl, sym, ap, ◌∙◌, arith, le-ltb, lt-ltb, length-take, length-drop, get_or-take, get_or-drop, get_or-set_other, get_or-set_same}
 use native.Mathlib.Nat.{min-eq_left, min-eq_right}
 use native.Mathlib.Decide.{dec_le}
 use Rattle.pattern.specs.declared.Pattern.{Pattern}
@@ -9,7 +9,7 @@ use Rattle.matching.specs.Occurrence.{View}
 use Rattle.counting.specs.Laws.Inputs.{gaps}
 use Rattle.counting.specs.Steps.Inputs.{Input}
 use Rattle.basics.specs.Sums.{total, rest}
-use Rattle.basics.specs.Laws.Sums.{total_same, total_none, run_inside, run_past}
+use Rattle.basics.specs.Laws.Sums.{total_split, total_same, total_none, run_inside, run_past}
 use Rattle.basics.specs.Choice.{when}
 use Rattle.matching.specs.Branches.{stands, ways}
 use Rattle.matching.specs.Spans.{far}
@@ -19,18 +19,18 @@ use Rattle.counting.specs.declared.window.Window.{Window}
 use Rattle.counting.specs.declared.tables.Tables.{Tables}
 use Rattle.counting.specs.Steps.Fits.{fitted, Fitted, part}
 use Rattle.counting.specs.Steps.Plans.{gap_at, Handed, Plan, plan_pattern, plan_view, Within}
-use Rattle.counting.specs.Steps.Rows.{Ended, Falling, Spread, Summable, Summed, size, stop_at, Row}
+use Rattle.counting.specs.Steps.Rows.{kept, ending, onward, Rising, Ended, Spread, size, stop_at, Row}
 use Rattle.counting.proofs.Distances.{distance-step, far-bound}
-use Rattle.counting.proofs.Loops.{rest_stop}
+use Rattle.counting.proofs.Loops.{rest_stop, kept_sum, kept_own, kept_same}
 
-rest_shift : (u v : ℕ → ℕ) (first n : ℕ) → ((i : ℕ) → i < n → u i ≡ v (first + i + 1)) → (i : ℕ) → i ≤ n → rest u n i ≡ rest v (first + n + 1) (first + i + 1)
-unfolding rest
-rest_shift u v first n h i l =
-    let e : first + n + 1 - (first + i + 1) ≡ n - i = omega arith in
-    rw e (total_same (n - i) u v i (first + i + 1) (λ x y. let d : first + i + 1 + x ≡ first + (i + x) + 1 = omega arith in rw d (h (i + x) (omega arith))))
-
-rest_falls : (v : ℕ → ℕ) (stop x y : ℕ) → x ≤ y → y ≤ stop → rest v stop y ≤ rest v stop x
-rest_falls v stop x y h l = omega (arith, run_inside v stop (y - x) x y (omega arith) l)
+-- the numbers at the first places of a window, and what stands from the next on
+before : (v : ℕ → ℕ) (first n i : ℕ) → i ≤ n → total i (λ k. v (first + k + 1)) 0 + rest v (first + n + 1) (first + i + 1) ≡ rest v (first + n + 1) (first + 1)
+before v first n i h =
+    let e = total_same i (λ k. v (first + k + 1)) v 0 (first + 1) (λ k l.
+    let o : 0 + k ≡ k = omega arith in
+    let d : first + 1 + k ≡ first + k + 1 = omega arith in
+    rw (o, d) refl) in
+    omega (arith, e, run_inside v (first + n + 1) i (first + 1) (first + i + 1) (omega arith) (omega arith))
 
 -- a window's sum is the difference of the sums from its two ends on, each no further than the stop
 module _ (v : ℕ → ℕ) (first n : ℕ) (none : (q : ℕ) → first + n + 1 ≤ q → v q ≡ 0) (i low high : ℕ) (h : i < n) (l : low ≤ high) where
@@ -53,6 +53,13 @@ module _ (v : ℕ → ℕ) (first n : ℕ) (none : (q : ℕ) → first + n + 1 �
         (omega (arith, total_none (high + 1 - low) v (first + i + 1 + low + 1) (λ q y. none q (omega arith))))
   ]
 
+  -- and of the sums up to there
+  pub window_sums : total (min (i + high + 1) (n - 1) + 1) (λ k. v (first + k + 1)) 0 - total (min (i + low) (n - 1) + 1) (λ k. v (first + k + 1)) 0 ≡ total (high + 1 - low) v (first + i + 1 + low + 1)
+  window_sums =
+      let a : min (i + low) (n - 1) + 1 ≡ min (i + low + 1) n = omega arith in
+      let b : min (i + high + 1) (n - 1) + 1 ≡ min (i + high + 2) n = omega arith in
+      rw (a, b) (omega (arith, window, before v first n (min (i + low + 1) n) (omega arith), before v first n (min (i + high + 2) n) (omega arith)))
+
 part_length : (T : List ℕ) (at n : ℕ) → at + n ≤ length T → length (part T at n) ≡ n
 unfolding part
 part_length T at n h = simp (length-take, length-drop) (omega arith)
@@ -64,9 +71,9 @@ module _ (f : Pattern) (v : View) (w : Window) where
   abbrev stop : ℕ → ℕ
   stop = stop_at f w
 
-  -- the sums of the row of slot j, with k slots after it
-  pub record Sums (k j : ℕ) (N : List ℕ) : Type 0 where
-    pub sums : (i : ℕ) → i ≤ size f w j → val N i ≡ rest (ways f v stop w.from k j) (stop j) (first + i + 1)
+  -- what is written for each place of slot j, with k slots after it
+  pub record Kept (summed : Bool) (k j : ℕ) (N : List ℕ) : Type 0 where
+    pub row : (i : ℕ) → i < size f w j → val N i ≡ kept summed (λ x. ways f v stop w.from k j (first + x + 1)) i
 
   pub fits_inside : {T : List ℕ} → Fitted f v T → first + w.places ≤ v.places → (i j : ℕ) → j < f.count → i < size f w j
       → stands f v stop w.from j (first + i + 1) ≡ fitted (part T (j * 20000 + first) (size f w j)) i
@@ -90,58 +97,72 @@ module _ (f : Pattern) (v : View) (w : Window) where
   ways_none zero j p h = rw (le-ltb p (stop j) h)
   ways_none (suc k) j p h = rw (le-ltb p (stop j) h)
 
-  pub end_row : {j m : ℕ} {T P N : List ℕ} → Input f v → Fitted f v T → first + w.places ≤ v.places → j < f.count → m ≡ size f w j
-      → P ≡ part T (j * 20000 + first) m → Ended P first w.from N → Row f v w zero j N
+  pub end_row : {j m : ℕ} {summed : Bool} {T P N : List ℕ} → Input f v → Fitted f v T → first + w.places ≤ v.places → j < f.count → m ≡ size f w j
+      → P ≡ part T (j * 20000 + first) m → Ended P first w.from summed N → Kept summed zero j N
   unfolding ways
-  end_row {j} {T = T} ok fit short l q p e =
-      let d : Ended (fits_part T j) first w.from _ = rw (p, q) at e in
+  end_row {j} {summed = summed} {T = T} ok fit short l q p e =
+      let d : Ended (fits_part T j) first w.from summed _ = rw (p, q) at e in
       let n = part-size ok fit short j l in
-      record { row = λ i h. rw (fits_inside fit short i j l h) (d.row i (omega arith)); stop = rw n at d.stop }
-
-  spread_row' : {k j : ℕ} {T N N' : List ℕ} → Input f v → Fitted f v T → first + w.places ≤ v.places → j < f.count
-      → (slot_at f (suc j)).low ≤ (slot_at f (suc j)).high → size f w j ≤ size f w (suc j) → Sums k (suc j) N
-      → Spread (fits_part T j) (slot_at f (suc j)).low (slot_at f (suc j)).high (size f w (suc j)) N N' → Row f v w (suc k) j N'
-  unfolding ways stop_at
-  spread_row' {k} {j} {T} {N} ok fit short x l y s e =
-      let on = ways f v stop w.from k (suc j) in
-      let m = size f w (suc j) in
-      let lo = (slot_at f (suc j)).low in
-      let hi = (slot_at f (suc j)).high in
-      let n = part-size ok fit short j x in
       record {
-        row = λ i h.
-            let d : val N (min (i + lo + 1) m) - val N (min (i + hi + 2) m) ≡ total (hi + 1 - lo) on (first + i + 1 + lo + 1) =
-            rw (s.sums (min (i + lo + 1) m) (omega arith), s.sums (min (i + hi + 2) m) (omega arith)) (window on first m (ways_none k (suc j)) i lo hi (omega arith) l) in
-            rw (fits_inside fit short i j x h, ← d) (e.row i (omega arith));
-        stop = rw n at e.stop;
+        row = λ i h. d.row i (omega arith) ∙ kept_same summed (ending (fits_part T j) first w.from) (λ x. ways f v stop w.from zero j (first + x + 1)) i
+            (λ x b. rw (fits_inside fit short x j l (omega arith)) refl);
       }
 
-  pub spread_row : {k j j' low high a b : ℕ} {T P N N' : List ℕ} → Input f v → Fitted f v T → first + w.places ≤ v.places → j' < f.count → j ≡ suc j'
-      → low ≡ (slot_at f j).low → high ≡ (slot_at f j).high → (slot_at f j).low ≤ (slot_at f j).high → a ≡ size f w j' → b ≡ size f w j → a ≤ b
-      → Sums k j N → P ≡ part T (j' * 20000 + first) a → Spread P low high b N N' → Row f v w (suc k) j' N'
-  spread_row {j' = j'} ok fit short x q el eh l ea eb y s p e =
-      spread_row' ok fit short x (rw q at l) (rw (ea, eb, q) at y) (rw q at s) (rw (p, el, eh, ea, eb, q) at e)
+  -- a slot's numbers, from the sums of the next slot's row
+  module _ {k j : ℕ} {T N : List ℕ} (ok : Input f v) (fit : Fitted f v T) (short : first + w.places ≤ v.places) (x : j < f.count)
+      (l : (slot_at f (suc j)).low ≤ (slot_at f (suc j)).high) (y : size f w j ≤ size f w (suc j)) (s : Kept true k (suc j) N) where
+    abbrev lo : ℕ
+    lo = (slot_at f (suc j)).low
 
-  module _ {k j : ℕ} {N : List ℕ} (r : Row f v w k j N) where
-    shift : (i : ℕ) → i ≤ size f w j → rest (val N) (size f w j) i ≡ rest (ways f v stop w.from k j) (stop j) (first + i + 1)
-    unfolding stop_at
-    shift = rest_shift (val N) (ways f v stop w.from k j) first (size f w j) r.row
+    abbrev hi : ℕ
+    hi = (slot_at f (suc j)).high
 
-    pub row_summable : {m : ℕ} → Input f v → j + k < f.count → w.places ≤ 20000 → m ≡ size f w j → Summable m N
-    unfolding rest stop_at size
-    row_summable ok h short q = rw q record {
-      stop = r.stop;
-      fits = λ i l. rw (shift i l) (total_fits f v (gaps ok.pattern) (stop j - (first + i + 1)) k stop w.from j (first + i + 1) h ok.pattern.few (omega arith));
-    }
+    abbrev m : ℕ
+    m = size f w (suc j)
 
-    pub row-sums : {m : ℕ} {N' : List ℕ} → m ≡ size f w j → Summed m N N' → Sums k j N'
-    row-sums q s = let d = rw q at s in record { sums = λ i l. d.sums i l ∙ shift i l }
+    onward_is : (i : ℕ) → i < size f w j → onward (fits_part T j) lo hi m N i ≡ ways f v stop w.from (suc k) j (first + i + 1)
+    unfolding ways stop_at
+    onward_is i h =
+        let a = min (i + lo) (m - 1) in
+        let b = min (i + hi + 1) (m - 1) in
+        let on = ways f v stop w.from k (suc j) in
+        let d : val N b - val N a ≡ total (hi + 1 - lo) on (first + i + 1 + lo + 1) =
+        rw (s.row a (omega arith), s.row b (omega arith), kept_sum (λ x. on (first + x + 1)) a, kept_sum (λ x. on (first + x + 1)) b) (window_sums on first m (ways_none k (suc j)) i lo hi (omega arith) l) in
+        rw (fits_inside fit short i j x h, d) refl
 
-  pub row_falling : {k j m : ℕ} {N : List ℕ} → m ≡ size f w j → Sums k j N → Falling m N
-  unfolding stop_at
-  row_falling {k} {j} {m} q s = rw q record {
-    falls = λ a b x y. rw (s.sums a (omega arith), s.sums b y)
-        (rest_falls (ways f v stop w.from k j) (stop j) (first + a + 1) (first + b + 1) (omega arith) (omega arith));
+    spread_kept : {summed : Bool} {N' : List ℕ} → Spread (fits_part T j) lo hi m summed N N' → Kept summed (suc k) j N'
+    spread_kept {summed} e =
+        let n = part-size ok fit short j x in
+        record {
+          row = λ i h. e.row i (omega arith) ∙ kept_same summed (onward (fits_part T j) lo hi m N) (λ z. ways f v stop w.from (suc k) j (first + z + 1)) i (λ z b. onward_is z (omega arith));
+        }
+
+    spread_small : suc j + k < f.count → w.places ≤ 20000 → (i : ℕ) → i ≤ length (fits_part T j) → total i (onward (fits_part T j) lo hi m N) 0 < 2 ^ 128
+    unfolding size
+    spread_small h few i b =
+        let n = part-size ok fit short j x in
+        let e = total_same i (onward (fits_part T j) lo hi m N) (ways f v stop w.from (suc k) j) 0 (first + 1) (λ z c.
+        let d : first + 1 + z ≡ first + z + 1 = omega arith in
+        let o : 0 + z ≡ z = omega arith in
+        rw (o, d) (onward_is z (omega arith))) in
+        rw e (total_fits f v (gaps ok.pattern) i (suc k) stop w.from j (first + 1) (omega arith) ok.pattern.few (omega arith))
+
+  -- the same where the run has its own names for these numbers
+  module _ {k j j' low high a b : ℕ} {T P N : List ℕ} (ok : Input f v) (fit : Fitted f v T) (short : first + w.places ≤ v.places) (x : j' < f.count) (q : j ≡ suc j')
+      (el : low ≡ (slot_at f j).low) (eh : high ≡ (slot_at f j).high) (l : (slot_at f j).low ≤ (slot_at f j).high) (ea : a ≡ size f w j') (eb : b ≡ size f w j) (y : a ≤ b)
+      (s : Kept true k j N) (p : P ≡ part T (j' * 20000 + first) a) where
+    pub spread_row : {summed : Bool} {N' : List ℕ} → Spread P low high b summed N N' → Kept summed (suc k) j' N'
+    spread_row e = spread_kept ok fit short x (rw q at l) (rw (ea, eb, q) at y) (rw q at s) (rw (p, el, eh, ea, eb, q) at e)
+
+    pub spread_fits : j + k < f.count → w.places ≤ 20000 → (i : ℕ) → i ≤ length P → total i (onward P low high b N) 0 < 2 ^ 128
+    spread_fits h few i n = rw (p, el, eh, ea, eb, q)
+        (spread_small ok fit short x (rw q at l) (rw (ea, eb, q) at y) (rw q at s) (rw q at h) few i (rw (p, ea) at n))
+
+  pub row_rising : {k j m : ℕ} {N : List ℕ} → m ≡ size f w j → Kept true k j N → Rising m N
+  row_rising {k} {j} {m} q s = rw q record {
+    rises = λ a b x y.
+        let u : ℕ → ℕ = λ i. ways f v stop w.from k j (first + i + 1) in
+        rw (s.row a (omega arith), s.row b y, kept_sum u a, kept_sum u b) (omega (arith, total_split (a + 1) (b - a) (b + 1) u 0 (a + 1) (omega arith) (omega arith)));
   }
 
 -- ---- what a run over a window is given
@@ -208,7 +229,7 @@ stage_small {j = j} ok s = let e = s.rows in (omega (arith, far-bound ok j s.ins
 pub record Counting (f : Pattern) (v : View) (w : Window) (j r n : ℕ) (N : List ℕ) : Type 0 where
   pub room : w.places < length N
   pub here : Stage f w j r n
-  pub row : Row f v w (f.count - 1 - j) j N
+  pub row : Kept f v w (ltb 0 j) (f.count - 1 - j) j N
 
 -- the first stage: the last slot
 module _ {f : Pattern} (w : Window) (some : 1 ≤ f.count) {r n : ℕ} (er : r ≡ far f (f.count - 1)) (en : n ≡ min w.places (w.starts + r)) where
@@ -217,7 +238,7 @@ module _ {f : Pattern} (w : Window) (some : 1 ≤ f.count) {r n : ℕ} (er : r �
   stage_begin = record { inside = omega arith; reach = er; rows = en ∙ ap (λ (z : ℕ). min w.places (w.starts + z)) er }
 
   pub counting_begin : {v : View} {T P N : List ℕ} → Input f v → Fitted f v T → w.first + w.places ≤ v.places → w.places < length N
-      → P ≡ part T ((f.count - 1) * 20000 + w.first) n → Ended P w.first w.from N → Counting f v w (f.count - 1) r n N
+      → P ≡ part T ((f.count - 1) * 20000 + w.first) n → Ended P w.first w.from (ltb 0 (f.count - 1)) N → Counting f v w (f.count - 1) r n N
   counting_begin {v} ok fit inside room p e = record {
     room = room;
     here = stage_begin;
@@ -270,25 +291,43 @@ module _ {t : Tables} (g : Plan t) {w : Window} {j r n : ℕ} (s : Stage (plan_p
     pub back_small : Within t.places w → w.starts + (r - high - 1) ≤ 20960
     back_small i = let a = run_small g i in omega (arith, stage_small g.handed.input.pattern s)
 
--- what a turn of the loop does: the row is summed, and spread to the slot before
-module _ {f : Pattern} {v : View} {w : Window} {j r n : ℕ} {N : List ℕ} (c : Counting f v w j r n N) (ok : Input f v) (inside : w.first + w.places ≤ v.places) where
+-- what a turn of the loop does: the numbers of the slot before, from the sums
+module _ {f : Pattern} {v : View} {w : Window} {j r n : ℕ} {N : List ℕ} (c : Counting f v w j r n N) (ok : Input f v) where
   pub counting_room : n < length N
   counting_room = omega (arith, c.room, stage_small ok.pattern c.here)
 
-  pub counting_summable : Summable n N
-  counting_summable =
-      let i = c.here.inside in
-      let s = ok.short in
-      row_summable f v w c.row ok (omega arith) (omega arith) c.here.rows
+  -- the first slot's numbers, and a 0 after them
+  pub counting_done : j ≤ 0 → Row f v w (f.count - 1) 0 (set N n 0)
+  counting_done h =
+      let e : j ≡ 0 = omega arith in
+      let room = counting_room in
+      let size = rw e at c.here.rows in
+      let z : f.count - 1 - 0 ≡ f.count - 1 = omega arith in
+      let d : Kept f v w false (f.count - 1) 0 N = rw z at (rw e at c.row) in
+      record {
+        row = λ i l. get_or-set_other N n i 0 0 (λ q. omega (arith, size)) ∙ d.row i l ∙ kept_own (λ x. ways f v (stop_at f w) w.from (f.count - 1) 0 (w.first + x + 1)) i;
+        stop = rw (← size) (get_or-set_same N n 0 0 room);
+      }
 
-  module _ {N' : List ℕ} (s : Summed n N N') where
-    pub counting_falling : Falling n N'
-    counting_falling = row_falling f v w c.here.rows (row-sums f v w c.row c.here.rows s)
+  module _ (inside : w.first + w.places ≤ v.places) (pos : 0 < j) where
+    counting_sums : Kept f v w true (f.count - 1 - j) j N
+    counting_sums = rw (lt-ltb 0 j pos) at c.row
 
-    module _ (pos : 0 < j) {low high : ℕ} (el : low ≡ (slot_at f j).low) (eh : high ≡ (slot_at f j).high) {k : ℕ} (ek : k ≡ min w.places (w.starts + (r - high - 1))) where
-      pub counting_more : {T P N'' : List ℕ} → Fitted f v T → length N'' ≡ length N → P ≡ part T ((j - 1) * 20000 + w.first) k
-          → Spread P low high n N' N'' → Counting f v w (j - 1) (r - high - 1) k N''
-      counting_more fit x p e =
+    pub counting_rising : Rising n N
+    counting_rising = row_rising f v w c.here.rows counting_sums
+
+    module _ {low high : ℕ} (el : low ≡ (slot_at f j).low) (eh : high ≡ (slot_at f j).high) {k : ℕ} (ek : k ≡ min w.places (w.starts + (r - high - 1)))
+        {T P : List ℕ} (fit : Fitted f v T) (p : P ≡ part T ((j - 1) * 20000 + w.first) k) where
+      pub counting_small : (i : ℕ) → i ≤ length P → total i (onward P low high n N) 0 < 2 ^ 128
+      counting_small =
+          let i = c.here.inside in
+          let s = ok.short in
+          let back = stage_back c.here pos eh ek in
+          spread_fits f v w {j = j} {j' = j - 1} ok fit inside (omega arith) (omega arith) el eh (gaps ok.pattern j i).0 back.rows c.here.rows (size_less c.here pos eh ek).0
+          counting_sums p (omega arith) (omega arith)
+
+      pub counting_more : {N' : List ℕ} → length N' ≡ length N → Spread P low high n (ltb 0 (j - 1)) N N' → Counting f v w (j - 1) (r - high - 1) k N'
+      counting_more x e =
           let i = c.here.inside in
           let r = c.room in
           let back = stage_back c.here pos eh ek in
@@ -296,5 +335,5 @@ module _ {f : Pattern} {v : View} {w : Window} {j r n : ℕ} {N : List ℕ} (c :
           record {
             room = omega arith;
             here = back;
-            row = rw d (spread_row f v w {j = j} {j' = j - 1} ok fit inside (omega arith) (omega arith) el eh (gaps ok.pattern j i).0 back.rows c.here.rows (size_less c.here pos eh ek).0 (row-sums f v w c.row c.here.rows s) p e);
+            row = rw d (spread_row f v w {j = j} {j' = j - 1} ok fit inside (omega arith) (omega arith) el eh (gaps ok.pattern j i).0 back.rows c.here.rows (size_less c.here pos eh ek).0 counting_sums p e);
           }

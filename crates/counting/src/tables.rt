@@ -29,7 +29,7 @@ pub(crate) struct Tables<'a> {
 
 impl<'a> Tables<'a> {
     // The tables of a pattern and a text, written to memory that is lent for them. Inlined, since the tables are filled sooner where it is
-    // the caller's own: without that counting_cases takes 463.3 million instructions, and with it 459.3.
+    // the caller's own: that took 4.0 million off the 463.3 million instructions of counting_cases.
     #[inline(always)]
     pub(crate) fn of(
         pattern: &Pattern,

@@ -1,7 +1,10 @@
-ghost use Rattle.std.specs.Prelude.{◌-◌, ◌<◌, ◌≤◌, length};
+ghost use Rattle.std.specs.Prelude.{◌≡◌, ℕ, ◌+◌, ◌-◌, ◌^◌, ◌<◌, ◌≤◌, min, length};
+ghost use Rattle.basics.specs.Choice.{when};
+ghost use Rattle.basics.specs.Sums.{total};
 ghost use Rattle.counting.specs.Steps.Plans.{Plan, plan_pattern, plan_view, Within};
-ghost use Rattle.counting.specs.Steps.Rows.{Ended, Falling, Spread, Summable, Summed, Row};
+ghost use Rattle.counting.specs.Steps.Rows.{Ended, onward, Rising, Spread, Row};
 
+use crate::gaps::Gap;
 use crate::tables::Tables;
 
 // Consecutive places of a text, and which rows are looked for there.
@@ -17,61 +20,73 @@ pub(crate) struct Window {
     pub from: usize,
 }
 
-// The last slot's row, of the places from `first` + 1 on that it fits or not.
-fn ends(fits: &[u8], first: usize, from: usize, row: &mut [u128])
-    requires room { length fits.now < length row.old }
-    requires short { (first ≤ 20000) × (length fits.now ≤ 20000) }
-    ensures { Ended fits.now first from row.new }
+// What the next number of a row is added to: the sum of those before it where sums are written, else nothing.
+fn carried(summed: bool, sum: u128) -> u128
+    ensures { result ≡ when summed sum }
 {
+    if summed { sum } else { 0 }
+}
+
+// The last slot's row, of the places from `first` + 1 on that it fits or not: its numbers or their sums.
+fn ends(fits: &[u8], first: usize, from: usize, summed: bool, row: &mut [u128])
+    requires room { length fits.now ≤ length row.old }
+    requires short { (first ≤ 20000) × (length fits.now ≤ 20000) }
+    ensures { Ended fits.now first from summed row.new }
+{
+    let mut count: u128 = 0;
     // the index is needed: it says whether a row may end there
     for i in 0..fits.len() {
-        row[i] = u128::from(fits[i] == 1 && from <= first + i + 1);
+        let here = u128::from(fits[i] == 1 && from <= first + i + 1);
+        count = carried(summed, count) + here;
+        row[i] = count;
     }
-    row[fits.len()] = 0;
 }
 
-// A slot's row, of the places that it fits or not, from the sums of the next slot's row of m. The index is needed: the row that is written is
-// read further on. The two loops are one but for an index each; one loop with both indexes held to m takes a third more instructions (605.8
-// against 459.1 million in counting_cases; docs/DECISIONS.md, 38).
-fn spread(fits: &[u8], low: usize, high: usize, m: usize, row: &mut [u128])
-    requires room { m < length row.old }
-    requires falling { Falling m row.old }
-    requires short { (low ≤ high) × (high < 65536) × (length fits.now ≤ m) × (m ≤ 20000) }
-    ensures { Spread fits.now low high m row.old row.new }
+// At how many of n places, from the first on, the widest gap ends inside a row of m. Whether there are any is tested first, which short
+// sentences need (docs/DECISIONS.md, 38).
+fn inside(n: usize, high: usize, m: usize) -> usize
+    requires { high < 65536 }
+    ensures { result ≡ min n (m - (high + 1)) }
 {
+    if high + 1 < m { n.min(m - high - 1) } else { 0 }
+}
+
+// A slot's row, of the places that it fits or not, over the gap to the next slot, from the sums of that slot's row of m: its numbers or their
+// sums. The index is needed: the row that is written is read further on. The two loops are one but for an index each (docs/DECISIONS.md, 38).
+fn spread(fits: &[u8], gap: Gap, m: usize, summed: bool, row: &mut [u128])
+    requires room { m ≤ length row.old }
+    requires rising { Rising m row.old }
+    requires small { (i : ℕ) → i ≤ length fits.now → total i (onward fits.now gap.low gap.high m row.old) 0 < 2 ^ 128 }
+    requires short { (gap.low ≤ gap.high) × (length fits.now ≤ m) × (m ≤ 20000) }
+    ensures { Spread fits.now gap.low gap.high m summed row.old row.new }
+{
+    let low = usize::from(gap.low);
+    let high = usize::from(gap.high);
     // from the first places on the widest gap ends inside the next slot's row, from the others past it
-    let inner = fits.len().min(m.saturating_sub(high + 2));
+    let inner = inside(fits.len(), high, m);
+    let mut sum: u128 = 0;
     for i in 0..inner {
-        if fits[i] == 1 {
-            row[i] = row[i + low + 1] - row[i + high + 2];
+        let here = if fits[i] == 1 {
+            row[i + high + 1] - row[i + low]
         } else {
-            row[i] = 0;
-        }
+            0
+        };
+        sum = carried(summed, sum) + here;
+        row[i] = sum;
     }
     for k in inner..fits.len() {
-        if fits[k] == 1 {
-            row[k] = row[(k + low + 1).min(m)] - row[m];
+        let here = if fits[k] == 1 {
+            row[m - 1] - row[(k + low).min(m - 1)]
         } else {
-            row[k] = 0;
-        }
-    }
-    row[fits.len()] = 0;
-}
-
-// The sums of a row, from each place on.
-fn sums(n: usize, row: &mut [u128])
-    requires room { n < length row.old }
-    requires summable { Summable n row.old }
-    ensures { Summed n row.old row.new }
-{
-    // the index is needed: each number takes its neighbour's
-    for i in (0..n).rev() {
-        row[i] += row[i + 1];
+            0
+        };
+        sum = carried(summed, sum) + here;
+        row[k] = sum;
     }
 }
 
-// The first slot's row of a window: how many rows of places start at each.
-#[tactic(auto, using(crate::proofs::Counting::back_fits, crate::proofs::Counting::back_on, crate::proofs::Counting::back_small))]
+// The first slot's row of a window: how many rows of places start at each. Of the slots after it the sums are written, as the slot before
+// each needs them.
 pub(crate) fn ways(tables: &Tables, w: Window, row: &mut [u128])
     requires plan { Plan tables.now }
     requires within { Within tables.now.places w }
@@ -82,16 +97,21 @@ pub(crate) fn ways(tables: &Tables, w: Window, row: &mut [u128])
     // how far the slot can be from the first, and how many places its row has
     let mut reach = tables.outline.reach;
     let mut n = w.places.min(w.starts + reach);
-    ends(tables.fits_of(last, w.first, n), w.first, w.from, row);
+    ends(
+        tables.fits_of(last, w.first, n),
+        w.first,
+        w.from,
+        0 < last,
+        row,
+    );
     // the index is needed: slot j is reached over the gap of slot j + 1
     for j in (0..last).rev() {
         let gap = tables.outline.gaps[j + 1];
-        let low = usize::from(gap.low);
-        let high = usize::from(gap.high);
-        reach = reach - high - 1;
+        reach = reach - usize::from(gap.high) - 1;
         let k = w.places.min(w.starts + reach);
-        sums(n, row);
-        spread(tables.fits_of(j, w.first, k), low, high, n, row);
+        spread(tables.fits_of(j, w.first, k), gap, n, 0 < j, row);
         n = k;
     }
+    // and a 0 after them
+    row[n] = 0;
 }

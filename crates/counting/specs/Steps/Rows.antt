@@ -1,9 +1,9 @@
 -- Rows of numbers over a window: for each of its places, how many rows of places go on from there.
-use Rattle.std.specs.Prelude.{◌≡◌, ℕ, ◌+◌, ◌-◌, ◌^◌, ◌<◌, ◌≤◌, min, ◌&&◌, List, length, nat_le}
+use Rattle.std.specs.Prelude.{◌≡◌, ℕ, ◌+◌, ◌-◌, ◌<◌, ◌≤◌, min, Bool, ◌&&◌, List, length, nat_le}
 use Rattle.pattern.specs.declared.Pattern.{Pattern}
 use Rattle.matching.specs.Occurrence.{View}
 use Rattle.matching.specs.Occurrences.{starting_in}
-use Rattle.basics.specs.Sums.{rest}
+use Rattle.basics.specs.Sums.{total}
 use Rattle.basics.specs.Choice.{when}
 use Rattle.matching.specs.Branches.{ways}
 use Rattle.matching.specs.Spans.{far}
@@ -16,30 +16,31 @@ pub record Blank (n : ℕ) (N : List ℕ) : Type 0 where
   pub room : n < length N
   pub zero : (i : ℕ) → val N i ≡ 0
 
+-- what is written for a number of a row: itself, or the sum of those up to it
+unfoldable pub kept : Bool → (ℕ → ℕ) → ℕ → ℕ
+kept summed v i = when summed (total i v 0) + v i
+
+-- the numbers rise, or stay, from place to place
+pub record Rising (n : ℕ) (N : List ℕ) : Type 0 where
+  pub rises : (a b : ℕ) → a ≤ b → b < n → val N a ≤ val N b
+
 -- ---- one slot's row, by which of its places the slot fits
 
--- the last slot's, of the places from `first` + 1 on
-pub record Ended (T : List ℕ) (first from : ℕ) (N : List ℕ) : Type 0 where
-  pub row : (i : ℕ) → i < length T → val N i ≡ when (fitted T i && nat_le from (first + i + 1)) 1
-  pub stop : val N (length T) ≡ 0
+-- the last slot's number at an index, of the places from `first` + 1 on
+abbrev pub ending : List ℕ → ℕ → ℕ → ℕ → ℕ
+ending T first from i = when (fitted T i && nat_le from (first + i + 1)) 1
 
--- the row's sums fit
-pub record Summable (n : ℕ) (N : List ℕ) : Type 0 where
-  pub stop : val N n ≡ 0
-  pub fits : (i : ℕ) → i ≤ n → rest (val N) n i < 2 ^ 128
+-- a slot's number at an index, from the sums of the next slot's row of m
+abbrev pub onward : List ℕ → ℕ → ℕ → ℕ → List ℕ → ℕ → ℕ
+onward T low high m N i = when (fitted T i) (val N (min (i + high + 1) (m - 1)) - val N (min (i + low) (m - 1)))
 
--- each number is the sum of what stood from there on
-pub record Summed (n : ℕ) (N N' : List ℕ) : Type 0 where
-  pub sums : (i : ℕ) → i ≤ n → val N' i ≡ rest (val N) n i
+-- the last slot's row
+pub record Ended (T : List ℕ) (first from : ℕ) (summed : Bool) (N : List ℕ) : Type 0 where
+  pub row : (i : ℕ) → i < length T → val N i ≡ kept summed (ending T first from) i
 
--- the numbers fall, or stay, from place to place
-pub record Falling (n : ℕ) (N : List ℕ) : Type 0 where
-  pub falls : (a b : ℕ) → a ≤ b → b ≤ n → val N b ≤ val N a
-
--- a slot's row, from the sums of the next slot's row of m
-pub record Spread (T : List ℕ) (low high m : ℕ) (N N' : List ℕ) : Type 0 where
-  pub row : (i : ℕ) → i < length T → val N' i ≡ when (fitted T i) (val N (min (i + low + 1) m) - val N (min (i + high + 2) m))
-  pub stop : val N' (length T) ≡ 0
+-- a slot's row
+pub record Spread (T : List ℕ) (low high m : ℕ) (summed : Bool) (N N' : List ℕ) : Type 0 where
+  pub row : (i : ℕ) → i < length T → val N' i ≡ kept summed (onward T low high m N) i
 
 -- ---- of a window
 
